@@ -3,15 +3,15 @@ use Rattle.std.proofs.Common.{◌≡◌, ◌≢◌, ◌⊎◌, ⊎_elim, inl, in
 use Rattle.std.proofs.lemmas.Bool.{false≢true, eqb-true, eq-eqb, cases_lt, and_parts}
 use Rattle.std.specs.List.{flat_map, AllByRecursion}
 use Rattle.std.specs.Prelude.{◌==◌, is_some, map}
-use Rattle.ctr_area.proofs.Buckets.{nothing_from_0}
-use Rattle.ctr_area.specs.Areas.{Title, Firsts, Slot, RowVersion, Area, no_pages}
-use Rattle.ctr_area.specs.Chains.{older_bound, places_from, slot_places, older_places, if_any, chain_of}
-use Rattle.ctr_area.specs.Changes.{with_title, with_firsts, ChangesEntry}
-use Rattle.ctr_area.specs.Images.{is_committed_in, is_live, entry_numbers}
-use Rattle.ctr_area.specs.Sound.{IsAmong, how_many, IsUsedSlot, is_headed_by, head_count, along, IsBare}
-use Rattle.ctr_meta.proofs.XidLaws.{in_head}
-use Rattle.ctr_meta.specs.Tables.{is_in, heads_in}
-use Rattle.ctr_page.specs.declared.rows.Place.{Place}
+use Rattle.ctr_record_laws.proofs.area_Buckets.{nothing_from_0}
+use Rattle.ctr_record_laws.specs.area_Areas.{Title, Firsts, Slot, RowVersion, Area, no_pages}
+use Rattle.ctr_record_laws.specs.area_Chains.{older_bound, places_from, slot_places, older_places, if_any, chain_of}
+use Rattle.ctr_record_laws.specs.area_Changes.{with_title, with_firsts, ChangesEntry}
+use Rattle.ctr_record_laws.specs.area_Images.{is_committed_in, is_live, entry_numbers}
+use Rattle.ctr_record_laws.specs.area_Sound.{IsAmong, how_many, IsUsedSlot, is_headed_by, head_count, along, IsBare}
+use Rattle.ctr_record_laws.proofs.meta_XidLaws.{in_head}
+use Rattle.ctr_record_laws.specs.meta_Tables.{is_in, heads_in}
+use Rattle.ctr_record_laws.specs.page_Place.{Place}
 use Rattle.ctr_record_laws.proofs.Along.{ends_at}
 use Rattle.ctr_record_laws.proofs.Elsewhere.{no_places}
 use Rattle.ctr_record_laws.proofs.Heads.{counts_tell, open_listed}
@@ -20,7 +20,7 @@ use Rattle.ctr_record_laws.proofs.RevertLaw.{revert_ways}
 use Rattle.ctr_record_laws.proofs.Xids.{looked_up}
 use Rattle.ctr_record_laws.specs.Bounds.{no_title, IsInBounds}
 use Rattle.ctr_record_laws.specs.Owed.{PassCommitted, first_page, CutHead, FreeTombstone}
-use Rattle.ctr_versions.proofs.Keys.{known}
+use Rattle.ctr_record_laws.proofs.versions_Keys.{known}
 use Rattle.ctr_actions.specs.Sites.{Site, IsSoundSite}
 use Rattle.ctr_actions.specs.Actions.{Reverts, Trims, FreesOlder, Unlinks, UnlinksOlder, FreesEntry, Forgets}
 use Rattle.ctr_actions.specs.Cleaning.{HasNothingToClean}

@@ -1,6 +1,6 @@
 -- Another's action is beside a page of one's own.
 use Rattle.std.proofs.Common.{◌≢◌, ℕ}
-use Rattle.ctr_page.specs.declared.header.Header.{Header}
+use Rattle.ctr_record_laws.specs.page_Header.{Header}
 use Rattle.ctr_record_laws.specs.Bounds.{IsInBounds}
 use Rattle.ctr_record_laws.specs.Owed.{OwedByFormat}
 use Rattle.ctr_actions.specs.Sites.{Site, IsSoundSite}

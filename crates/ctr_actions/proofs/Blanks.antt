@@ -1,15 +1,15 @@
 -- An empty page that a transaction has allocated stays empty, with its header, over actions beside it.
 use Rattle.std.proofs.Common.{◌≡◌, ◌≢◌, ℕ, cond, refl, sym, ◌∙◌, ap}
 use Rattle.std.proofs.lemmas.Bool.{ne_eqb}
-use Rattle.ctr_area.specs.Areas.{Title, Firsts, Slot, Older, Area, nowhere, free_slot, free_older, no_pages}
-use Rattle.ctr_area.specs.Changes.{with_slot, with_older, new_title, empty_chains, ChangesEntry}
-use Rattle.ctr_area.specs.Images.{is_committed_in}
+use Rattle.ctr_record_laws.specs.area_Areas.{Title, Firsts, Slot, Older, Area, nowhere, free_slot, free_older, no_pages}
+use Rattle.ctr_record_laws.specs.area_Changes.{with_slot, with_older, new_title, empty_chains, ChangesEntry}
+use Rattle.ctr_record_laws.specs.area_Images.{is_committed_in}
 use Rattle.ctr_record_laws.proofs.Fitting.{fitting, place_of}
 use Rattle.ctr_record_laws.proofs.OneSlot.{other_place, place_cases, slot_apart}
 use Rattle.ctr_record_laws.proofs.Kept.{older_here, older_apart}
 use Rattle.ctr_record_laws.specs.Bounds.{IsInBounds}
-use Rattle.ctr_page.specs.declared.header.Header.{Header}
-use Rattle.ctr_page.specs.declared.rows.Place.{Place}
+use Rattle.ctr_record_laws.specs.page_Header.{Header}
+use Rattle.ctr_record_laws.specs.page_Place.{Place}
 use Rattle.ctr_record_laws.specs.Owed.{slot_by, reverted_slot, trimmed_slot, cut_at, OwedByFormat, IsEmptyPage}
 use Rattle.ctr_actions.specs.Sites.{Site, IsSoundSite}
 use Rattle.ctr_actions.specs.Actions.{Action, Begins, Allocates, Formats, Links, LinksOlder, Keeps, Writes, Creates, Drops, Commits, Frees, Uncreates, Undrops, Aborts, Reclaims, Reverts, Trims, Cuts, FreesOlder, MakesDead, Unlinks, UnlinksOlder, FreesEntry, Forgets, Checkpoints, Owes, site_after}

@@ -2,17 +2,17 @@
 use Rattle.std.proofs.Common.{◌≡◌, ⊎_elim, ℕ, ◌<◌, ◌≤◌, Bool, true, false, cond, length, drop, refl, sym, ◌∙◌, ap, subst, arith}
 use Rattle.std.proofs.lemmas.Bool.{false≢true, eqb-true, ne_eqb, cases_lt}
 use Rattle.std.specs.Prelude.{◌==◌}
-use Rattle.ctr_area.specs.Areas.{Title, Firsts, no_pages}
-use Rattle.ctr_area.specs.Changes.{with_title, with_firsts, with_bucket, room_by}
-use Rattle.ctr_area.specs.Images.{is_live}
-use Rattle.ctr_page.specs.declared.header.Header.{Header}
-use Rattle.ctr_rec.specs.declared.record.SlogItem.TheVariants.{CreateOf, DropOf}
+use Rattle.ctr_record_laws.specs.area_Areas.{Title, Firsts, no_pages}
+use Rattle.ctr_record_laws.specs.area_Changes.{with_title, with_firsts, with_bucket, room_by}
+use Rattle.ctr_record_laws.specs.area_Images.{is_live}
+use Rattle.ctr_record_laws.specs.page_Header.{Header}
+use Rattle.ctr_record_laws.specs.rec_SlogItem.TheVariants.{CreateOf, DropOf}
 use Rattle.ctr_record_laws.proofs.Bounds.{room_few}
 use Rattle.ctr_record_laws.proofs.Links.{bucket_inside}
 use Rattle.ctr_record_laws.proofs.Unlinks.{older_inside, above_zero}
 use Rattle.ctr_record_laws.specs.Bounds.{IsInBounds}
-use Rattle.ctr_area.specs.ctr_value.Payload.{width}
-use Rattle.ctr_versions.proofs.Keys.{known}
+use Rattle.ctr_record_laws.specs.value_Payload.{width}
+use Rattle.ctr_record_laws.proofs.versions_Keys.{known}
 use Rattle.ctr_actions.specs.Sites.{Site, IsSoundSite}
 use Rattle.ctr_actions.specs.Actions.{Action, Begins, Allocates, Formats, Links, LinksOlder, Keeps, Writes, Creates, Drops, Commits, Frees, Uncreates, Undrops, Aborts, Reclaims, Reverts, Trims, Cuts, FreesOlder, MakesDead, Unlinks, UnlinksOlder, FreesEntry, Forgets, Checkpoints, Owes, site_after, LeavesBounds}
 use Rattle.ctr_actions.proofs.Latest.{last_among}

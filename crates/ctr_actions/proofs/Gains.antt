@@ -2,14 +2,14 @@
 use Rattle.std.proofs.Common.{◌≡◌, ⊎_elim, inl, inr, ℕ, ◌≤◌, true, cond, List, [], ◌∷◌, refl, sym, ap, subst, arith}
 use Rattle.std.proofs.lemmas.Bool.{eq-eqb}
 use Rattle.std.specs.List.{list_any}
-use Rattle.ctr_area.specs.Areas.{free_slot, free_older}
-use Rattle.ctr_area.specs.Sound.{IsAmong, page_of_item, how_many}
-use Rattle.ctr_meta.specs.Items.{is_wanted, is_item_by, left_out}
-use Rattle.ctr_meta.specs.declared.items.Wanted.{Wanted}
-use Rattle.ctr_meta.specs.declared.items.Wanted.TheVariants.{Allocation, OfPage}
-use Rattle.ctr_page.specs.declared.header.Header.{Header}
-use Rattle.ctr_rec.specs.declared.record.SlogItem.{SlogItem}
-use Rattle.ctr_rec.specs.declared.record.SlogItem.TheVariants.{AllocOf}
+use Rattle.ctr_record_laws.specs.area_Areas.{free_slot, free_older}
+use Rattle.ctr_record_laws.specs.area_Sound.{IsAmong, page_of_item, how_many}
+use Rattle.ctr_record_laws.specs.meta_Items.{is_wanted, is_item_by, left_out}
+use Rattle.ctr_record_laws.specs.meta_Wanted.{Wanted}
+use Rattle.ctr_record_laws.specs.meta_Wanted.TheVariants.{Allocation, OfPage}
+use Rattle.ctr_record_laws.specs.page_Header.{Header}
+use Rattle.ctr_record_laws.specs.rec_SlogItem.{SlogItem}
+use Rattle.ctr_record_laws.specs.rec_SlogItem.TheVariants.{AllocOf}
 use Rattle.ctr_record_laws.proofs.Begin.{xids_append}
 use Rattle.ctr_record_laws.proofs.Format.{allocation_is}
 use Rattle.ctr_record_laws.proofs.Members.{among_rest}
@@ -19,8 +19,8 @@ use Rattle.ctr_record_laws.proofs.Undone.{counted_member}
 use Rattle.ctr_record_laws.proofs.Xids.{among_in}
 use Rattle.ctr_record_laws.specs.Bounds.{IsInBounds}
 use Rattle.ctr_record_laws.specs.Owed.{OwedByFormat, HasNoItems}
-use Rattle.ctr_versions.proofs.Keys.{known}
-use Rattle.ctr_area.specs.Sound.{xids_in}
+use Rattle.ctr_record_laws.proofs.versions_Keys.{known}
+use Rattle.ctr_record_laws.specs.area_Sound.{xids_in}
 use Rattle.ctr_actions.specs.Sites.{Site, IsSoundSite}
 use Rattle.ctr_actions.specs.Actions.{Action, Begins, Allocates, Formats, Links, LinksOlder, Keeps, Writes, Creates, Drops, Commits, Frees, Uncreates, Undrops, Aborts, Reclaims, Reverts, Trims, Cuts, FreesOlder, MakesDead, Unlinks, UnlinksOlder, FreesEntry, Forgets, Checkpoints, Owes, site_after, item_count}
 use Rattle.ctr_actions.specs.Facts.{IsOpen, HasBlank, HasNoPageBut, HoldsFact, LetsGo}

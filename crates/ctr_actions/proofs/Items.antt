@@ -3,13 +3,13 @@ use Rattle.std.proofs.Common.{◌≡◌, ◌≢◌, ⊎_elim, inl, inr, ◌⊎�
 use Rattle.std.proofs.lemmas.Bool.{false≢true, eq-eqb, ne_eqb}
 use Rattle.std.specs.List.{list_any}
 use Rattle.std.specs.Prelude.{◌&&◌, not, nat_eq}
-use Rattle.ctr_area.specs.Sound.{IsAmong}
-use Rattle.ctr_meta.specs.Effects.{one_head_more, one_head_less, with_item, without_item}
-use Rattle.ctr_meta.specs.Items.{is_wanted, is_schema_by, left_out}
-use Rattle.ctr_meta.specs.declared.items.Wanted.{Wanted}
-use Rattle.ctr_meta.specs.declared.items.Wanted.TheVariants.{Allocation, OfPage, Creation, Dropping}
-use Rattle.ctr_rec.specs.declared.record.SlogItem.{SlogItem}
-use Rattle.ctr_rec.specs.declared.record.SlogItem.TheVariants.{AllocOf, FreeOf, CreateOf, DropOf}
+use Rattle.ctr_record_laws.specs.area_Sound.{IsAmong}
+use Rattle.ctr_record_laws.specs.meta_Effects.{one_head_more, one_head_less, with_item, without_item}
+use Rattle.ctr_record_laws.specs.meta_Items.{is_wanted, is_schema_by, left_out}
+use Rattle.ctr_record_laws.specs.meta_Wanted.{Wanted}
+use Rattle.ctr_record_laws.specs.meta_Wanted.TheVariants.{Allocation, OfPage, Creation, Dropping}
+use Rattle.ctr_record_laws.specs.rec_SlogItem.{SlogItem}
+use Rattle.ctr_record_laws.specs.rec_SlogItem.TheVariants.{AllocOf, FreeOf, CreateOf, DropOf}
 use Rattle.ctr_record_laws.proofs.Format.{item_page}
 use Rattle.ctr_record_laws.proofs.Items.{any_there}
 use Rattle.ctr_record_laws.proofs.Members.{among_front, among_parts}
@@ -17,7 +17,7 @@ use Rattle.ctr_record_laws.proofs.Undone.{filter_among, among_filter}
 use Rattle.ctr_record_laws.proofs.Xids.{both_same, more_same, less_same}
 use Rattle.ctr_record_laws.specs.Bounds.{IsInBounds}
 use Rattle.ctr_record_laws.specs.Owed.{loses_head, OwedByFormat}
-use Rattle.ctr_versions.proofs.Keys.{known}
+use Rattle.ctr_record_laws.proofs.versions_Keys.{known}
 use Rattle.ctr_actions.specs.Sites.{Site, IsSoundSite}
 use Rattle.ctr_actions.specs.Actions.{Action, Begins, Allocates, Formats, Links, LinksOlder, Keeps, Writes, Creates, Drops, Commits, Frees, Uncreates, Undrops, Aborts, Reclaims, Reverts, Trims, Cuts, FreesOlder, MakesDead, Unlinks, UnlinksOlder, FreesEntry, Forgets, Checkpoints, Owes, site_after}
 use Rattle.ctr_actions.specs.Facts.{HasPage, HasNoPageBut, IsBeside}

@@ -3,17 +3,17 @@ use Rattle.std.proofs.Common.{◌≡◌, inl, ℕ, suc, ◌+◌, true, false, co
 use Rattle.std.proofs.lemmas.Bool.{false≢true, eqb-true, eq-eqb}
 use Rattle.std.specs.List.{list_any}
 use Rattle.std.specs.Prelude.{nat_eq}
-use Rattle.ctr_area.specs.Sound.{IsAmong}
-use Rattle.ctr_meta.specs.Items.{is_wanted, is_item_by, left_out}
-use Rattle.ctr_meta.specs.declared.items.Wanted.{Wanted}
-use Rattle.ctr_meta.specs.declared.items.Wanted.TheVariants.{Allocation, OfPage, Creation, Dropping}
+use Rattle.ctr_record_laws.specs.area_Sound.{IsAmong}
+use Rattle.ctr_record_laws.specs.meta_Items.{is_wanted, is_item_by, left_out}
+use Rattle.ctr_record_laws.specs.meta_Wanted.{Wanted}
+use Rattle.ctr_record_laws.specs.meta_Wanted.TheVariants.{Allocation, OfPage, Creation, Dropping}
 use Rattle.ctr_record_laws.proofs.Members.{among_rest}
-use Rattle.ctr_rec.specs.declared.record.SlogItem.{SlogItem}
-use Rattle.ctr_rec.specs.declared.record.SlogItem.TheVariants.{AllocOf, FreeOf, CreateOf, DropOf}
+use Rattle.ctr_record_laws.specs.rec_SlogItem.{SlogItem}
+use Rattle.ctr_record_laws.specs.rec_SlogItem.TheVariants.{AllocOf, FreeOf, CreateOf, DropOf}
 use Rattle.ctr_record_laws.proofs.Items.{taken_out, any_there}
 use Rattle.ctr_record_laws.proofs.Undone.{filter_among}
 use Rattle.ctr_record_laws.specs.Owed.{IsLastItem}
-use Rattle.ctr_versions.proofs.Keys.{known}
+use Rattle.ctr_record_laws.proofs.versions_Keys.{known}
 use Rattle.ctr_actions.specs.Sites.{Site}
 use Rattle.ctr_actions.specs.Actions.{Owes, site_after, undoing}
 use Rattle.ctr_actions.proofs.Items.{wanted_itself}

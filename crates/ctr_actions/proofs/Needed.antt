@@ -4,16 +4,16 @@ use Rattle.std.proofs.lemmas.Bool.{eq-eqb, eqb-true, lt-ltb}
 use Rattle.std.specs.List.{flat_map, count_by}
 use Rattle.std.specs.Prelude.{⊤, ◌==◌, ◌&&◌, not, nat_eq, nat_lt, filter, length}
 use Rattle.std.proofs.lemmas.List.Sums.{length-filter}
-use Rattle.ctr_area.specs.Areas.{Slot}
-use Rattle.ctr_area.specs.Chains.{slot_places}
-use Rattle.ctr_area.specs.Images.{is_committed_in, entry_numbers}
-use Rattle.ctr_area.specs.Sound.{IsAmong, how_many, IsUsedSlot, is_headed_by, head_count}
+use Rattle.ctr_record_laws.specs.area_Areas.{Slot}
+use Rattle.ctr_record_laws.specs.area_Chains.{slot_places}
+use Rattle.ctr_record_laws.specs.area_Images.{is_committed_in, entry_numbers}
+use Rattle.ctr_record_laws.specs.area_Sound.{IsAmong, how_many, IsUsedSlot, is_headed_by, head_count}
 use Rattle.ctr_bytes.specs.Following.{◌>>=◌}
-use Rattle.ctr_meta.specs.Effects.{one_head_more}
-use Rattle.ctr_meta.specs.Items.{is_alloc_by, is_item_by}
-use Rattle.ctr_meta.specs.Needs.{there, head_there, is_bare, row_needs, revert_need, commit_needs, abort_needs, forget_need}
-use Rattle.ctr_meta.specs.Tables.{Tables, is_in, heads_in, heads_of}
-use Rattle.ctr_page.specs.declared.rows.Place.{Place}
+use Rattle.ctr_record_laws.specs.meta_Effects.{one_head_more}
+use Rattle.ctr_record_laws.specs.meta_Items.{is_alloc_by, is_item_by}
+use Rattle.ctr_record_laws.specs.meta_Needs.{there, head_there, is_bare, row_needs, revert_need, commit_needs, abort_needs, forget_need}
+use Rattle.ctr_record_laws.specs.meta_Tables.{Tables, is_in, heads_in, heads_of}
+use Rattle.ctr_record_laws.specs.page_Place.{Place}
 use Rattle.ctr_record_laws.proofs.Fitting.{fitting}
 use Rattle.ctr_record_laws.proofs.Heads.{counts_tell, open_listed, never_both}
 use Rattle.ctr_record_laws.proofs.Members.{bit}
@@ -21,11 +21,11 @@ use Rattle.ctr_record_laws.proofs.Owned.{in_all, slot_inside}
 use Rattle.ctr_record_laws.proofs.Xids.{same_in, looked_up, raised, more_same}
 use Rattle.ctr_record_laws.specs.Bounds.{IsInBounds}
 use Rattle.ctr_record_laws.specs.Owed.{RowMove, OwedByRow, loses_head, Reverting, OwedByRevert, OwedByCommit, OwedByAbort, OwedByForget}
-use Rattle.ctr_rec.specs.Damage.{expect, wrong}
-use Rattle.ctr_rec.specs.declared.decoding.BadRecord.{BadRecord}
-use Rattle.ctr_rec.specs.declared.record.SlogItem.{SlogItem}
-use Rattle.ctr_rec.specs.declared.record.SlogItem.TheVariants.{AllocOf, FreeOf, CreateOf, DropOf}
-use Rattle.ctr_versions.proofs.Keys.{known}
+use Rattle.ctr_record_laws.specs.rec_Damage.{expect, wrong}
+use Rattle.ctr_record_laws.specs.rec_BadRecord.{BadRecord}
+use Rattle.ctr_record_laws.specs.rec_SlogItem.{SlogItem}
+use Rattle.ctr_record_laws.specs.rec_SlogItem.TheVariants.{AllocOf, FreeOf, CreateOf, DropOf}
+use Rattle.ctr_record_laws.proofs.versions_Keys.{known}
 use Rattle.ctr_actions.specs.Sites.{Site, IsSoundSite}
 
 -- what is wanted is there

@@ -1,10 +1,10 @@
 -- An open transaction stays open over the actions of others, and over its own but those that end it.
 use Rattle.std.proofs.Common.{◌≡◌, ◌≢◌, ◌⊎◌, ⊎_elim, ℕ, true, [], ◌∷◌, sym, ◌∙◌, subst}
-use Rattle.ctr_area.specs.Sound.{IsAmong, xids_in}
+use Rattle.ctr_record_laws.specs.area_Sound.{IsAmong, xids_in}
 use Rattle.ctr_record_laws.proofs.Begin.{xids_append}
 use Rattle.ctr_record_laws.proofs.Leaving.{still_among}
-use Rattle.ctr_meta.specs.Effects.{one_head_more, one_head_less}
-use Rattle.ctr_meta.specs.Tables.{is_in}
+use Rattle.ctr_record_laws.specs.meta_Effects.{one_head_more, one_head_less}
+use Rattle.ctr_record_laws.specs.meta_Tables.{is_in}
 use Rattle.ctr_record_laws.proofs.Members.{among_front}
 use Rattle.ctr_record_laws.proofs.Xids.{among_in, in_among, same_in, both_same, more_same, less_same}
 use Rattle.ctr_record_laws.specs.Owed.{loses_head}

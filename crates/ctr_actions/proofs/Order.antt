@@ -4,15 +4,15 @@ use Rattle.std.proofs.lemmas.Bool.{false≢true, eqb-true, eq-eqb}
 use Rattle.std.proofs.lemmas.List.{append_assoc}
 use Rattle.std.specs.List.{flat_map, filter}
 use Rattle.std.specs.Prelude.{◌==◌, not}
-use Rattle.ctr_area.specs.Chains.{table_pages}
-use Rattle.ctr_area.specs.Images.{entry_numbers}
-use Rattle.ctr_area.specs.Sound.{IsAmong, how_many, page_of_item, owned_pages, is_creation, is_dropping}
-use Rattle.ctr_meta.specs.Effects.{one_head_more, one_head_less}
-use Rattle.ctr_meta.specs.Items.{is_wanted, is_item_by, is_schema_by, left_out}
-use Rattle.ctr_meta.specs.declared.items.Wanted.{Wanted}
-use Rattle.ctr_meta.specs.declared.items.Wanted.TheVariants.{Allocation, OfPage, Creation, Dropping}
-use Rattle.ctr_rec.specs.declared.record.SlogItem.{SlogItem}
-use Rattle.ctr_rec.specs.declared.record.SlogItem.TheVariants.{AllocOf, FreeOf, CreateOf, DropOf}
+use Rattle.ctr_record_laws.specs.area_Chains.{table_pages}
+use Rattle.ctr_record_laws.specs.area_Images.{entry_numbers}
+use Rattle.ctr_record_laws.specs.area_Sound.{IsAmong, how_many, page_of_item, owned_pages, is_creation, is_dropping}
+use Rattle.ctr_record_laws.specs.meta_Effects.{one_head_more, one_head_less}
+use Rattle.ctr_record_laws.specs.meta_Items.{is_wanted, is_item_by, is_schema_by, left_out}
+use Rattle.ctr_record_laws.specs.meta_Wanted.{Wanted}
+use Rattle.ctr_record_laws.specs.meta_Wanted.TheVariants.{Allocation, OfPage, Creation, Dropping}
+use Rattle.ctr_record_laws.specs.rec_SlogItem.{SlogItem}
+use Rattle.ctr_record_laws.specs.rec_SlogItem.TheVariants.{AllocOf, FreeOf, CreateOf, DropOf}
 use Rattle.ctr_record_laws.proofs.Format.{item_page, allocation_is}
 use Rattle.ctr_record_laws.proofs.Items.{the_one, count_with, pages_with}
 use Rattle.ctr_record_laws.proofs.Members.{among_front, among_rest, among_parts, count_append, count_among, bit}
@@ -22,7 +22,7 @@ use Rattle.ctr_record_laws.proofs.Undone.{filter_append, filter_among, counted_m
 use Rattle.ctr_record_laws.proofs.Xids.{both_same, more_same, less_same}
 use Rattle.ctr_record_laws.specs.Bounds.{IsInBounds}
 use Rattle.ctr_record_laws.specs.Owed.{loses_head, HasNoItems, IsLastItem}
-use Rattle.ctr_versions.proofs.Keys.{known}
+use Rattle.ctr_record_laws.proofs.versions_Keys.{known}
 use Rattle.ctr_actions.specs.Sites.{Site, IsSoundSite}
 use Rattle.ctr_actions.specs.Actions.{Action, Begins, Allocates, Formats, Links, LinksOlder, Keeps, Writes, Creates, Drops, Commits, Frees, Uncreates, Undrops, Aborts, Reclaims, Reverts, Trims, Cuts, FreesOlder, MakesDead, Unlinks, UnlinksOlder, FreesEntry, Forgets, Checkpoints, Owes, site_after, undoing, item_count}
 use Rattle.ctr_actions.proofs.Items.{left_back}

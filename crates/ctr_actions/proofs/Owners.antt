@@ -3,19 +3,19 @@ use Rattle.std.proofs.Common.{◌≡◌, ◌≢◌, inl, inr, ℕ, ◌+◌, ◌�
 use Rattle.std.proofs.lemmas.Bool.{false≢true}
 use Rattle.std.specs.List.{flat_map, list_any}
 use Rattle.std.specs.Prelude.{◌==◌}
-use Rattle.ctr_area.proofs.Buckets.{on_chain}
-use Rattle.ctr_area.specs.Chains.{pages_bound, pages_from, slot_places, older_places, table_pages}
-use Rattle.ctr_area.specs.Images.{entry_numbers}
-use Rattle.ctr_area.specs.Sound.{IsAmong, how_many, page_of_item, owned_pages}
+use Rattle.ctr_record_laws.proofs.area_Buckets.{on_chain}
+use Rattle.ctr_record_laws.specs.area_Chains.{pages_bound, pages_from, slot_places, older_places, table_pages}
+use Rattle.ctr_record_laws.specs.area_Images.{entry_numbers}
+use Rattle.ctr_record_laws.specs.area_Sound.{IsAmong, how_many, page_of_item, owned_pages}
 use Rattle.ctr_record_laws.proofs.Members.{among_front, among_rest, count_append, count_among}
 use Rattle.ctr_record_laws.proofs.Items.{taken_out, pages_with, it_is_in}
 use Rattle.ctr_record_laws.proofs.Owned.{owned_once}
-use Rattle.ctr_meta.specs.Items.{is_wanted, left_out}
-use Rattle.ctr_meta.specs.declared.items.Wanted.{Wanted}
+use Rattle.ctr_record_laws.specs.meta_Items.{is_wanted, left_out}
+use Rattle.ctr_record_laws.specs.meta_Wanted.{Wanted}
 use Rattle.ctr_record_laws.specs.Bounds.{IsInBounds}
-use Rattle.ctr_page.specs.declared.rows.Place.{Place}
-use Rattle.ctr_rec.specs.declared.record.SlogItem.{SlogItem}
-use Rattle.ctr_rec.specs.declared.record.SlogItem.TheVariants.{AllocOf, FreeOf, CreateOf, DropOf}
+use Rattle.ctr_record_laws.specs.page_Place.{Place}
+use Rattle.ctr_record_laws.specs.rec_SlogItem.{SlogItem}
+use Rattle.ctr_record_laws.specs.rec_SlogItem.TheVariants.{AllocOf, FreeOf, CreateOf, DropOf}
 use Rattle.ctr_record_laws.proofs.Away.{place_on_chains}
 use Rattle.ctr_record_laws.proofs.Format.{item_page, item_alone}
 use Rattle.ctr_record_laws.proofs.Owning.{flat_among}

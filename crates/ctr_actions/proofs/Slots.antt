@@ -1,17 +1,17 @@
 -- Rows of other keys stand in other slots.
 use Rattle.std.proofs.Common.{◌≡◌, ◌≢◌, ⊎_elim, ℕ, sym, ◌∙◌, ap, subst}
 use Rattle.std.proofs.lemmas.Bool.{false≢true}
-use Rattle.ctr_area.proofs.Buckets.{each_of, on_chain}
-use Rattle.ctr_area.specs.Areas.{RowVersion, Older}
-use Rattle.ctr_area.specs.Chains.{pages_bound, pages_from, older_places}
-use Rattle.ctr_area.specs.Images.{is_committed_in}
-use Rattle.ctr_area.specs.Sound.{IsAmong, IsUsedSlot, IsOfVersions}
+use Rattle.ctr_record_laws.proofs.area_Buckets.{each_of, on_chain}
+use Rattle.ctr_record_laws.specs.area_Areas.{RowVersion, Older}
+use Rattle.ctr_record_laws.specs.area_Chains.{pages_bound, pages_from, older_places}
+use Rattle.ctr_record_laws.specs.area_Images.{is_committed_in}
+use Rattle.ctr_record_laws.specs.area_Sound.{IsAmong, IsUsedSlot, IsOfVersions}
 use Rattle.ctr_record_laws.proofs.Fitting.{fitting}
 use Rattle.ctr_record_laws.proofs.Owned.{one_table}
 use Rattle.ctr_record_laws.specs.Bounds.{IsInBounds}
 use Rattle.ctr_record_laws.specs.Owed.{RowMove, OwedByRow}
 use Rattle.ctr_record_laws.specs.Loose.{IsLoose, IsSpareFor}
-use Rattle.ctr_page.specs.declared.rows.Place.{Place}
+use Rattle.ctr_record_laws.specs.page_Place.{Place}
 use Rattle.ctr_actions.specs.Sites.{Site, IsSoundSite}
 use Rattle.ctr_actions.specs.Facts.{IsOtherRow}
 

@@ -2,11 +2,11 @@
 use Rattle.std.proofs.Common.{◌≡◌, ◌≢◌, ℕ, cond, refl, sym, ◌∙◌, ap, subst}
 use Rattle.std.proofs.lemmas.Bool.{ne_eqb}
 use Rattle.std.specs.List.{flat_map}
-use Rattle.ctr_area.specs.Areas.{Title, Firsts, RowVersion, Slot}
-use Rattle.ctr_area.specs.Chains.{places_from}
-use Rattle.ctr_area.specs.Changes.{with_firsts, new_title}
-use Rattle.ctr_area.specs.Sound.{IsAmong, IsUsedSlot}
-use Rattle.ctr_page.specs.declared.rows.Place.{Place}
+use Rattle.ctr_record_laws.specs.area_Areas.{Title, Firsts, RowVersion, Slot}
+use Rattle.ctr_record_laws.specs.area_Chains.{places_from}
+use Rattle.ctr_record_laws.specs.area_Changes.{with_firsts, new_title}
+use Rattle.ctr_record_laws.specs.area_Sound.{IsAmong, IsUsedSlot}
+use Rattle.ctr_record_laws.specs.page_Place.{Place}
 use Rattle.ctr_record_laws.specs.Loose.{IsSameSlot}
 use Rattle.ctr_actions.specs.Sites.{Site}
 use Rattle.ctr_actions.specs.Actions.{Action, Begins, Allocates, Formats, Links, LinksOlder, Keeps, Writes, Creates, Drops, Commits, Frees, Uncreates, Undrops, Aborts, Reclaims, Reverts, Trims, Cuts, FreesOlder, MakesDead, Unlinks, UnlinksOlder, FreesEntry, Forgets, Checkpoints, Owes, site_after}

@@ -4,19 +4,19 @@
 -- drawn yet: what their actions leave has no number in it.
 use Rattle.std.specs.Prelude.{◌≡◌, ◌≢◌, ℕ, Bool, true, false, List, Ok}
 use Rattle.ctr_types.specs.declared.value.Column.{Column}
-use Rattle.ctr_rec.specs.declared.record.SlogItem.{SlogItem}
-use Rattle.ctr_rec.specs.declared.record.SlogItem.TheVariants.{AllocOf, FreeOf, CreateOf, DropOf}
-use Rattle.ctr_rec.specs.Spelling.{checkpoint_bytes}
-use Rattle.ctr_meta.specs.Items.{is_item_by}
-use Rattle.ctr_meta.specs.declared.items.Wanted.TheVariants.{Allocation, OfPage, Creation, Dropping}
-use Rattle.ctr_meta.specs.Tables.{Tables, is_in}
-use Rattle.ctr_meta.specs.Effects.{listed, opened_by, committed, rolled_back, forgotten_by, with_item, without_item, one_aborted_less}
-use Rattle.ctr_meta.specs.Needs.{list_needs}
-use Rattle.ctr_page.specs.declared.header.Header.{Header}
-use Rattle.ctr_page.specs.declared.rows.Place.{Place}
-use Rattle.ctr_area.specs.Areas.{Title, Older, Area, no_pages, free_older}
-use Rattle.ctr_area.specs.Sound.{IsAmong, how_many}
-use Rattle.ctr_area.specs.Changes.{with_taken, with_blank, with_firsts, with_bucket, with_older, with_title, new_title, empty_chains, ChangesEntry}
+use Rattle.ctr_record_laws.specs.rec_SlogItem.{SlogItem}
+use Rattle.ctr_record_laws.specs.rec_SlogItem.TheVariants.{AllocOf, FreeOf, CreateOf, DropOf}
+use Rattle.ctr_record_laws.specs.rec_Spelling.{checkpoint_bytes}
+use Rattle.ctr_record_laws.specs.meta_Items.{is_item_by}
+use Rattle.ctr_record_laws.specs.meta_Wanted.TheVariants.{Allocation, OfPage, Creation, Dropping}
+use Rattle.ctr_record_laws.specs.meta_Tables.{Tables, is_in}
+use Rattle.ctr_record_laws.specs.meta_Effects.{listed, opened_by, committed, rolled_back, forgotten_by, with_item, without_item, one_aborted_less}
+use Rattle.ctr_record_laws.specs.meta_Needs.{list_needs}
+use Rattle.ctr_record_laws.specs.page_Header.{Header}
+use Rattle.ctr_record_laws.specs.page_Place.{Place}
+use Rattle.ctr_record_laws.specs.area_Areas.{Title, Older, Area, no_pages, free_older}
+use Rattle.ctr_record_laws.specs.area_Sound.{IsAmong, how_many}
+use Rattle.ctr_record_laws.specs.area_Changes.{with_taken, with_blank, with_firsts, with_bucket, with_older, with_title, new_title, empty_chains, ChangesEntry}
 use Rattle.ctr_record_laws.specs.Bounds.{IsInBounds}
 use Rattle.ctr_record_laws.specs.Owed.{OwedByKeep, RowMove, row_moved, row_counted, OwedByRow, Reverting, OwedByRevert, reverted_at, Trimming, OwedByTrim, trimmed_at, OwedByCut, cut_at, OwedByAlloc, OwedByFormat, OwedByLink, OwedByOlderLink, OwedByUnlink, OwedByOlderUnlink, OwedByUncreate, OwedByUndrop, OwedByDrop, OwedByCreate, OwedByDying, OwedByFreeing, OwedByAbort, OwedByCommit, OwedByBegin, OwedByForget}
 use Rattle.ctr_record_laws.specs.Loose.{IsLoose}

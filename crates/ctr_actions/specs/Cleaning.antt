@@ -1,6 +1,6 @@
 -- What the cleaner does, and when it has nothing to do.
 use Rattle.std.specs.Prelude.{◌≡◌, ℕ, Bool, true}
-use Rattle.ctr_area.specs.Images.{is_live}
+use Rattle.ctr_record_laws.specs.area_Images.{is_live}
 use Rattle.ctr_actions.specs.Sites.{Site}
 use Rattle.ctr_actions.specs.Actions.{Action, Reclaims, Reverts, Trims, Cuts, FreesOlder, MakesDead, Unlinks, UnlinksOlder, FreesEntry, Forgets, Owes}
 

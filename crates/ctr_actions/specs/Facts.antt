@@ -1,11 +1,11 @@
 -- What a session counts on from one of its turns to the next, whoever acts between.
 use Rattle.std.specs.Prelude.{◌≡◌, ◌≢◌, ℕ, ℤ, true, List}
-use Rattle.ctr_rec.specs.declared.record.SlogItem.TheVariants.{AllocOf}
-use Rattle.ctr_meta.specs.Tables.{is_in}
-use Rattle.ctr_page.specs.declared.header.Header.{Header}
-use Rattle.ctr_page.specs.declared.rows.Place.{Place}
-use Rattle.ctr_area.specs.Areas.{Title, RowVersion, Slot}
-use Rattle.ctr_area.specs.Sound.{IsAmong, IsUsedSlot}
+use Rattle.ctr_record_laws.specs.rec_SlogItem.TheVariants.{AllocOf}
+use Rattle.ctr_record_laws.specs.meta_Tables.{is_in}
+use Rattle.ctr_record_laws.specs.page_Header.{Header}
+use Rattle.ctr_record_laws.specs.page_Place.{Place}
+use Rattle.ctr_record_laws.specs.area_Areas.{Title, RowVersion, Slot}
+use Rattle.ctr_record_laws.specs.area_Sound.{IsAmong, IsUsedSlot}
 use Rattle.ctr_record_laws.specs.Owed.{OwedByFormat, IsEmptyPage}
 use Rattle.ctr_record_laws.specs.Loose.{IsSpareFor}
 use Rattle.ctr_actions.specs.Sites.{Site}

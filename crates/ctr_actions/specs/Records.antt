@@ -1,8 +1,8 @@
 -- Which record each action is.
 use Rattle.std.specs.Prelude.{◌≡◌, ℕ}
-use Rattle.ctr_rec.specs.declared.record.Overlay.{Overlay}
-use Rattle.ctr_rec.specs.declared.record.Record.{Record}
-use Rattle.ctr_rec.specs.declared.record.Record.TheVariants.{Checkpoint, Begin, Commit, Abort, Forget, Alloc, Format, Link, Free, Unlink, Create, Uncreate, Drop, Undrop, Row, Keep, Revert, Trim}
+use Rattle.ctr_record_effects.specs.rec_Overlay.{Overlay}
+use Rattle.ctr_record_effects.specs.rec_Record.{Record}
+use Rattle.ctr_record_effects.specs.rec_Record.TheVariants.{Checkpoint, Begin, Commit, Abort, Forget, Alloc, Format, Link, Free, Unlink, Create, Uncreate, Drop, Undrop, Row, Keep, Revert, Trim}
 use Rattle.ctr_record_effects.specs.ctr_redo.States.{State}
 use Rattle.ctr_record_laws.specs.Owed.{loses_head}
 use Rattle.ctr_actions.specs.Sites.{Site, site_of}

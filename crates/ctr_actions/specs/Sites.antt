@@ -1,9 +1,9 @@
 -- What stands in a store, as its records change it.
 use Rattle.std.specs.Prelude.{◌≡◌, ℕ}
-use Rattle.ctr_meta.specs.Tables.{Tables}
-use Rattle.ctr_area.specs.Areas.{Area}
-use Rattle.ctr_area.specs.Images.{is_committed_in, versions_in}
-use Rattle.ctr_area.specs.Sound.{IsSoundArea}
+use Rattle.ctr_record_laws.specs.meta_Tables.{Tables}
+use Rattle.ctr_record_laws.specs.area_Areas.{Area}
+use Rattle.ctr_record_laws.specs.area_Images.{is_committed_in, versions_in}
+use Rattle.ctr_record_laws.specs.area_Sound.{IsSoundArea}
 use Rattle.ctr_record_effects.specs.ctr_redo.States.{State}
 use Rattle.ctr_record_effects.specs.States.{area_in}
 

@@ -9,6 +9,15 @@ mod states;
 mod undoing;
 
 pub use cleaning::a_site_with_nothing_to_clean_is_bare;
+pub use ctr_record_effects::{
+    a_drop_changes_its_title, a_free_changes_its_bit, a_new_table_has_its_entry,
+    an_alloc_changes_its_bit, an_uncreate_changes_its_title, an_undrop_changes_its_title,
+    over_entry, over_page,
+};
+pub use ctr_record_laws::{
+    a_free_entry_shows_the_same, a_keep_shows_the_same, a_kept_version_is_spare,
+    a_revert_leaves_its_entry, a_revert_takes_the_head, pages_are_in_bounds,
+};
 pub use held::{an_action_gives_its_fact, what_is_held_pays};
 pub use laws::{
     a_quiet_action_leaves_the_engine, a_quiet_action_shows_the_same, an_action_meets_its_needs,

@@ -5,10 +5,10 @@ use Rattle.std.specs.Int.{w8, bit_at, trailing_ones}
 use Rattle.std.specs.Int.Bits.{bit_or}
 use Rattle.std.proofs.lemmas.Bool.{eqb-true, eqb-false, cases_lt}
 use Rattle.std.proofs.lemmas.Nat.Bits.{bit_at_or, bit_at_ones, bit_at_ones_above, bit_at-lt, bit_at-trailing_ones}
-use Rattle.ctr_versions.proofs.Keys.{known}
-use Rattle.ctr_area.specs.Reading.{has_bit, is_taken, area_of}
-use Rattle.ctr_area.specs.Changes.{IsBitSet, with_taken, with_byte_of}
-use Rattle.ctr_area.proofs.Marked.{bit_written}
+use Rattle.ctr_actions.proofs.versions_Keys.{known}
+use Rattle.ctr_actions.specs.area_Reading.{has_bit, is_taken, area_of}
+use Rattle.ctr_actions.specs.area_Changes.{IsBitSet, with_taken, with_byte_of}
+use Rattle.ctr_actions.proofs.area_Marked.{bit_written}
 use Rattle.ctr_alloc.specs.declared.search.NextFree.{NextFree}
 use Rattle.ctr_alloc.specs.declared.search.NextFree.TheVariants.{Page, Grow, Full}
 use Rattle.ctr_alloc.specs.Free.{marks_in, AreFullBelow, AreTakenBelow, IsFree, IsNextFree, MayBeNext, taken_in}

@@ -1,7 +1,7 @@
 -- What may be logged where there is room for one record more.
 use Rattle.std.proofs.Common.{ℕ, ◌+◌, ◌/◌, ◌^◌, ◌<◌, ◌≤◌, refl, arith}
-use Rattle.ctr_record_effects.specs.Changing.{alloc_record, free_record}
-use Rattle.ctr_store.specs.Store.{View, MayLog}
+use Rattle.ctr_actions.specs.ctr_record_effects.Changing.{alloc_record, free_record}
+use Rattle.ctr_walk.specs.store_Store.{View, MayLog}
 use Rattle.ctr_walk.specs.OneRecord.{HasRoomForOne}
 
 on_page : (p : ℕ) → p < 30000 → p / 8 + 1 ≤ 4096

@@ -2,8 +2,8 @@
 -- are 0.
 use Rattle.std.specs.Prelude.{◌≡◌, ℕ, ◌==◌, ◌<◌, ◌≤◌, Bool, true, false, List, slice_index, if◌then◌else◌}
 use Rattle.std.specs.Int.Bits.{bit_or}
-use Rattle.ctr_base.specs.declared.growing.TheConstants.{MOST_PAGES}
-use Rattle.ctr_area.specs.Reading.{is_taken}
+use Rattle.ctr_walk.specs.base_growing_TheConstants.{MOST_PAGES}
+use Rattle.ctr_actions.specs.area_Reading.{is_taken}
 use Rattle.ctr_alloc.specs.declared.search.NextFree.{NextFree}
 use Rattle.ctr_alloc.specs.declared.search.NextFree.TheVariants.{Page, Grow, Full}
 

@@ -1,24 +1,23 @@
 // One record allocates a page of a store, or gives it back.
 ghost use Rattle.std.specs.Prelude.{◌≡◌, ◌<◌, ◌/◌, ◌%◌, ℕ, true, false, slice_index, IfOk, OnOk};
-ghost use Rattle.ctr_base.specs.declared.growing.TheConstants.{MOST_PAGES};
-ghost use Rattle.ctr_area.specs.Changes.{IsBitSet};
-ghost use Rattle.ctr_base.specs.Base.{WhereSound};
-ghost use Rattle.ctr_store.specs.Store.{LeavesPage};
+ghost use Rattle.ctr_walk.specs.base_growing_TheConstants.{MOST_PAGES};
+ghost use Rattle.ctr_actions.specs.area_Changes.{IsBitSet};
+ghost use Rattle.ctr_walk.specs.base_Base.{WhereSound};
+ghost use Rattle.ctr_walk.specs.store_Store.{LeavesPage};
 ghost use Rattle.ctr_walk.specs.OneRecord.{HasRoomForOne, LogsOne};
-ghost use Rattle.ctr_record_effects.specs.States.{pages_in, IsWholePage};
-ghost use Rattle.ctr_record_effects.specs.Changing.{alloc_record, free_record};
+ghost use Rattle.ctr_actions.specs.ctr_record_effects.States.{pages_in, IsWholePage};
+ghost use Rattle.ctr_actions.specs.ctr_record_effects.Changing.{alloc_record, free_record};
 ghost use Rattle.ctr_actions.specs.Sites.{site_of};
 ghost use Rattle.ctr_actions.specs.Actions.{Allocates, Frees, site_after};
 
 use crate::bits::{with_free, with_taken};
-use ctr_actions::a_logged_record_is_its_action;
-use ctr_base::Origin;
+use ctr_actions::{
+    a_free_changes_its_bit, a_logged_record_is_its_action, an_alloc_changes_its_bit,
+};
 use ctr_disk::{Disk, StoreFault};
 use ctr_rec::{Bytes, Overlay, PageNo, Record};
-use ctr_record_effects::{a_free_changes_its_bit, an_alloc_changes_its_bit};
-use ctr_store::Store;
 use ctr_types::Xid;
-use ctr_walk::{a_record_behind_a_page, log_record};
+use ctr_walk::{Origin, Store, a_record_behind_a_page, log_record};
 
 // The byte of page 0 in which a page has its bit, where this page is allocated, or free.
 fn byte_with<D: Disk, O: Origin>(

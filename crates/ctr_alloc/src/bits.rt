@@ -1,7 +1,7 @@
 // The bit of a page in its byte of page 0.
 ghost use Rattle.std.specs.Prelude.{◌≡◌, ◌<◌, ◌/◌, ◌%◌, ℕ, true, false, List, length, slice_index};
-ghost use Rattle.ctr_area.specs.Reading.{area_of};
-ghost use Rattle.ctr_area.specs.Changes.{with_taken as area_with_taken, IsBitSet, with_byte_of};
+ghost use Rattle.ctr_actions.specs.area_Reading.{area_of};
+ghost use Rattle.ctr_actions.specs.area_Changes.{with_taken as area_with_taken, IsBitSet, with_byte_of};
 
 use ctr_rec::PageNo;
 

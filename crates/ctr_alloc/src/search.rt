@@ -1,11 +1,11 @@
 // The lowest free page, by the bytes of page 0: eight pages a byte.
 ghost use Rattle.std.specs.Prelude.{◌≡◌, ◌≤◌, ◌<◌, ◌/◌, ◌%◌, ℕ, None, slice_index, IfSome};
 ghost use Rattle.std.specs.Int.{bit_at};
-ghost use Rattle.ctr_base.specs.declared.growing.TheConstants.{MOST_PAGES};
+ghost use Rattle.ctr_walk.specs.base_growing_TheConstants.{MOST_PAGES};
 ghost use Rattle.ctr_alloc.specs.Free.{marks_in, AreFullBelow, AreTakenBelow, IsFree, IsNextFree, taken_in};
 
-use ctr_base::MOST_PAGES;
 use ctr_rec::PageNo;
+use ctr_walk::MOST_PAGES;
 
 /// Where a page can be had.
 #[derive(Clone, Copy, Debug, PartialEq, Eq)]

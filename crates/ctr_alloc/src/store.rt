@@ -1,14 +1,13 @@
 // The free pages of a store.
 ghost use Rattle.std.specs.Prelude.{◌≡◌, false, IfOk};
-ghost use Rattle.ctr_base.specs.Base.{WhereSound};
-ghost use Rattle.ctr_store.specs.Store.{LeavesPage};
-ghost use Rattle.ctr_record_effects.specs.States.{area_in};
+ghost use Rattle.ctr_walk.specs.base_Base.{WhereSound};
+ghost use Rattle.ctr_walk.specs.store_Store.{LeavesPage};
+ghost use Rattle.ctr_actions.specs.ctr_record_effects.States.{area_in};
 ghost use Rattle.ctr_alloc.specs.Free.{IsNextFree, MayBeNext};
 
 use crate::search::{NextFree, next_free_on};
-use ctr_base::Origin;
 use ctr_disk::{Disk, StoreFault};
-use ctr_store::Store;
+use ctr_walk::{Origin, Store};
 
 /// The next free page of a store, by the bytes of page 0. It logs nothing, and takes no memory.
 pub fn next_free<D: Disk, O: Origin>(store: &mut Store<D, O>) -> Result<NextFree, StoreFault>

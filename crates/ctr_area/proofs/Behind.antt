@@ -2,7 +2,7 @@
 -- are as before, all is as before.
 use Rattle.std.proofs.Common.{◌≡◌, ℕ, true, false, cond, List, drop, sym, ◌∙◌, ap}
 use Rattle.std.specs.Prelude.{◌==◌, nat_lt}
-use Rattle.ctr_types.specs.declared.value.Column.{Column}
+use Rattle.ctr_page.specs.types_Column.{Column}
 use Rattle.ctr_versions.proofs.Keys.{known}
 use Rattle.ctr_page.specs.ctr_value.Payload.{width}
 use Rattle.ctr_page.specs.declared.header.Header.{Header}

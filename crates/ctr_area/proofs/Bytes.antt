@@ -2,8 +2,8 @@
 use Rattle.std.proofs.Common.{◌≡◌, ⊎_elim, ℕ, zero, suc, ◌+◌, ◌-◌, ◌<◌, ◌≤◌, List, [], ◌∷◌, ◌++◌, append_assoc, length, take, drop, replicate, slice_index, refl, sym, ◌∙◌, ap, subst, take-append-drop, arith}
 use Rattle.std.proofs.lemmas.Bool.{cases_lt}
 use Rattle.std.proofs.lemmas.List.{get_or-take, get_or-drop, length-take-le, length-drop, length-append, take_at, drop_at, take-take, take-append-le, drop-append-le, drop-drop, drop-take}
-use Rattle.ctr_bytes.specs.Fields.{field}
-use Rattle.ctr_bytes.proofs.FieldLaws.{field-append}
+use Rattle.ctr_meta.specs.ctr_bytes.Fields.{field}
+use Rattle.ctr_page.proofs.bytes_FieldLaws.{field-append}
 use Rattle.ctr_page.specs.Reading.{piece, put_over}
 
 pub length-piece : (at n : ℕ) (bytes : List ℕ) → at + n ≤ length bytes → length (piece at n bytes) ≡ n

@@ -2,11 +2,11 @@
 use Rattle.std.proofs.Common.{◌≡◌, ℕ, ◌+◌, ◌*◌, ◌/◌, ◌%◌, ◌<◌, ◌≤◌, true, cond, List, [], ◌++◌, length, drop, replicate, refl, sym, ◌∙◌, ap, arith}
 use Rattle.std.specs.Prelude.{◌==◌, nat_lt}
 use Rattle.std.proofs.lemmas.Bool.{eqb-true, eqb-false, eq-eqb, ne_eqb, le-ltb}
-use Rattle.ctr_types.specs.declared.value.Column.{Column}
+use Rattle.ctr_page.specs.types_Column.{Column}
 use Rattle.ctr_versions.proofs.Keys.{known}
 use Rattle.std.specs.Option.{option_map}
-use Rattle.ctr_bytes.specs.Fields.{spelled, field}
-use Rattle.ctr_bytes.proofs.FieldLaws.{length-spelled, got_byte}
+use Rattle.ctr_meta.specs.ctr_bytes.Fields.{spelled, field}
+use Rattle.ctr_page.proofs.bytes_FieldLaws.{length-spelled, got_byte}
 use Rattle.ctr_page.specs.ctr_value.Payload.{width}
 use Rattle.ctr_page.specs.declared.header.Header.{Header}
 use Rattle.ctr_page.specs.declared.rows.Place.{Place}

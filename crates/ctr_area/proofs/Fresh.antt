@@ -11,7 +11,7 @@ use Rattle.ctr_versions.proofs.Keys.{known}
 use Rattle.ctr_page.specs.ctr_rec.declared.record.SlogItem.{SlogItem}
 use Rattle.ctr_page.specs.ctr_rec.declared.record.SlogItem.TheVariants.{CreateOf}
 use Rattle.ctr_versions.specs.ctr_model.Database.{name_cmp}
-use Rattle.ctr_bytes.proofs.FieldLaws.{got_byte}
+use Rattle.ctr_page.proofs.bytes_FieldLaws.{got_byte}
 use Rattle.ctr_meta.specs.Tables.{no_tables}
 use Rattle.ctr_page.specs.declared.header.Header.{Header}
 use Rattle.ctr_page.specs.declared.rows.Place.{Place}

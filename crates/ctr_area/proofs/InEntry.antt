@@ -5,8 +5,8 @@ use Rattle.std.proofs.Math.Seq.{take-add}
 use Rattle.std.proofs.lemmas.Bool.{eqb-true, ne_eqb, lt-ltb, cases_lt, cases_eq, eq-eqb}
 use Rattle.std.proofs.lemmas.List.{take-take, drop-drop, drop-append-le, length-take-le, length-drop, drop_at}
 use Rattle.ctr_versions.proofs.Keys.{known}
-use Rattle.ctr_bytes.specs.Fields.{spelled, field}
-use Rattle.ctr_bytes.proofs.FieldLaws.{length-spelled, field_at, field-drop, got_byte}
+use Rattle.ctr_meta.specs.ctr_bytes.Fields.{spelled, field}
+use Rattle.ctr_page.proofs.bytes_FieldLaws.{length-spelled, field_at, field-drop, got_byte}
 use Rattle.ctr_page.specs.Reading.{piece, put_over}
 use Rattle.ctr_page.specs.Columns.{entry_in, name_in, kind_said, columns_from, columns_in, table_name_in, first_in, versions_first_in}
 use Rattle.ctr_area.specs.Areas.{Title, Firsts, no_pages, Area}

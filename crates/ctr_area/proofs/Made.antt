@@ -3,9 +3,9 @@ use Rattle.std.proofs.Common.{◌≡◌, ℕ, ◌+◌, ◌-◌, ◌*◌, ◌/◌
 use Rattle.std.specs.Prelude.{◌==◌}
 use Rattle.std.specs.List.{flat_map, AllByRecursion}
 use Rattle.std.proofs.lemmas.List.{length-replicate, drop_at, append-nil}
-use Rattle.ctr_types.specs.declared.value.Column.{Column}
-use Rattle.ctr_bytes.specs.Fields.{spelled, field}
-use Rattle.ctr_bytes.proofs.FieldLaws.{length-spelled, field-drop}
+use Rattle.ctr_page.specs.types_Column.{Column}
+use Rattle.ctr_meta.specs.ctr_bytes.Fields.{spelled, field}
+use Rattle.ctr_page.proofs.bytes_FieldLaws.{length-spelled, field-drop}
 use Rattle.ctr_page.specs.ctr_value.Columns.{ColumnFits, ColumnsFit, column_bytes}
 use Rattle.ctr_page.specs.Columns.{entry_in, text_bytes, columns_bytes, new_entry_bytes}
 use Rattle.ctr_page.proofs.Back.{length-more}

@@ -4,9 +4,9 @@ use Rattle.std.proofs.Common.{◌≡◌, ⊎_elim, ℕ, ◌+◌, ◌*◌, ◌/�
 use Rattle.std.specs.Prelude.{◌==◌, nat_lt}
 use Rattle.std.proofs.lemmas.Bool.{false≢true, eq-eqb, eqb-true, ne_eqb, cases_lt, cases_eq}
 use Rattle.std.proofs.lemmas.Nat.{div_below}
-use Rattle.ctr_types.specs.declared.value.Column.{Column}
+use Rattle.ctr_page.specs.types_Column.{Column}
 use Rattle.ctr_versions.proofs.Keys.{known}
-use Rattle.ctr_bytes.specs.Fields.{field}
+use Rattle.ctr_meta.specs.ctr_bytes.Fields.{field}
 use Rattle.ctr_page.specs.ctr_value.Payload.{width}
 use Rattle.ctr_page.specs.declared.header.Header.{Header}
 use Rattle.ctr_page.specs.declared.rows.Place.{Place}

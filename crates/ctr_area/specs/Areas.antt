@@ -1,7 +1,7 @@
 -- An area: what stands at each place of the pages, and not in which bytes.
 use Rattle.std.specs.Prelude.{ℕ, ◌==◌, ℤ, Bool, false, ◌&&◌, List, [], Option, None, pos}
-use Rattle.ctr_types.specs.declared.value.Row.{Row}
-use Rattle.ctr_types.specs.declared.value.Column.{Column}
+use Rattle.ctr_versions.specs.types_Row.{Row}
+use Rattle.ctr_page.specs.types_Column.{Column}
 use Rattle.ctr_page.specs.declared.header.Header.{Header}
 use Rattle.ctr_page.specs.declared.rows.Place.{Place}
 

@@ -1,6 +1,6 @@
 -- What a record does to an area: one place of it is changed.
 use Rattle.std.specs.Prelude.{◌≡◌, ◌≢◌, ℕ, ◌+◌, ◌*◌, ◌/◌, ◌%◌, ◌==◌, ◌<◌, ◌≤◌, Bool, List, [], ◌∷◌, length, drop, set, replicate, if◌then◌else◌}
-use Rattle.ctr_types.specs.declared.value.Column.{Column}
+use Rattle.ctr_page.specs.types_Column.{Column}
 use Rattle.ctr_page.specs.ctr_value.Payload.{width}
 use Rattle.ctr_page.specs.declared.header.Header.{Header}
 use Rattle.ctr_page.specs.declared.rows.Place.{Place}

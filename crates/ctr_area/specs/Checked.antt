@@ -1,7 +1,7 @@
 -- Pages on which no check fails, wherever a chain leads.
 use Rattle.std.specs.Prelude.{◌≡◌, ℕ, ◌+◌, ◌*◌, ◌/◌, ◌%◌, ◌<◌, List, [], ◌∷◌, ⊤, Result, Ok}
 use Rattle.std.specs.List.{AllByRecursion}
-use Rattle.ctr_types.specs.declared.value.Kind.{Kind}
+use Rattle.ctr_page.specs.types_Kind.{Kind}
 use Rattle.ctr_page.specs.ctr_rec.declared.decoding.BadRecord.{BadRecord}
 use Rattle.ctr_page.specs.declared.checks.Chain.{Chain}
 use Rattle.ctr_page.specs.declared.checks.Chain.TheVariants.{Rows, Versions}

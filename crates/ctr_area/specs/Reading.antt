@@ -2,8 +2,8 @@
 -- the columns of the entry that it names. So what stands at a place doesn't depend on any chain.
 use Rattle.std.specs.Prelude.{ℕ, ◌+◌, ◌*◌, ◌/◌, ◌%◌, ◌^◌, ◌==◌, nat_lt, ℤ, Bool, true, List, [], ◌∷◌, map, drop, slice_index, Some, None, if◌then◌else◌}
 use Rattle.std.specs.Option.{option_map}
-use Rattle.ctr_types.specs.declared.value.Row.{Row}
-use Rattle.ctr_types.specs.declared.value.Column.{Column}
+use Rattle.ctr_versions.specs.types_Row.{Row}
+use Rattle.ctr_page.specs.types_Column.{Column}
 use Rattle.ctr_page.specs.ctr_value.Payload.{width}
 use Rattle.ctr_page.specs.ctr_value.Values.{row_values}
 use Rattle.ctr_page.specs.declared.header.Header.{Header}

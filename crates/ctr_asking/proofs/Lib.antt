@@ -13,3 +13,4 @@ pub mod Firsts
 pub mod Presence
 pub mod Going
 pub mod Undropped
+pub use Rattle.ctr_views.proofs.Looking as views_Looking

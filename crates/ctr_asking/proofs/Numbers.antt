@@ -9,7 +9,7 @@ use Rattle.ctr_versions.specs.Xids.{Xids, has_committed, number_of, place_from}
 use Rattle.ctr_versions.proofs.Keys.{known}
 use Rattle.ctr_meta.specs.Seen.{xid_is_changed}
 use Rattle.ctr_meta.specs.Tables.{Tables}
-use Rattle.ctr_paged.specs.Paged.{xids_of}
+use Rattle.ctr_txn.specs.paged_Paged.{xids_of}
 use Rattle.ctr_txn.specs.Numbered.{number_asked}
 use Rattle.ctr_asking.specs.Causes.{number_unseen}
 

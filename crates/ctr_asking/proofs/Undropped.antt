@@ -19,9 +19,9 @@ use Rattle.ctr_names.specs.Search.{IsEntryFound}
 use Rattle.ctr_names.proofs.Entries.{name_of}
 use Rattle.ctr_names.proofs.Held.{name_alone}
 use Rattle.ctr_names.proofs.Search.{found_undropped}
-use Rattle.ctr_actions.specs.Sites.{Site}
-use Rattle.ctr_paged.specs.Paged.{xids_of}
-use Rattle.ctr_paged.specs.Shown.{Scene}
+use Rattle.ctr_views.specs.actions_Sites.{Site}
+use Rattle.ctr_txn.specs.paged_Paged.{xids_of}
+use Rattle.ctr_views.specs.paged_Shown.{Scene}
 use Rattle.ctr_views.specs.Viewing.{Viewer}
 use Rattle.ctr_views.proofs.Looking.{as_found, look, looking, names_shown}
 use Rattle.ctr_asking.specs.declared.asker.Asker.{Asker}

@@ -1,3 +1,4 @@
 pub mod Values
 pub mod Causes
 pub mod Asking
+pub use Rattle.ctr_walk.specs.Damage as walk_Damage

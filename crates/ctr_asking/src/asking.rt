@@ -5,7 +5,7 @@ ghost use Rattle.ctr_model.specs.Refusals.{table_of, table_refusals, first_of, r
 ghost use Rattle.ctr_base.specs.Base.{WhereSound};
 ghost use Rattle.ctr_record_effects.specs.Standing.{IsDatabaseState};
 ghost use Rattle.ctr_walk.specs.Damage.{ReadsPages};
-ghost use Rattle.ctr_actions.specs.Sites.{site_of};
+ghost use Rattle.ctr_views.specs.actions_Sites.{site_of};
 ghost use Rattle.ctr_txn.specs.Held.{txn_of};
 ghost use Rattle.ctr_asking.specs.Asking.{Asking, IsInside, refusal_told, IsInCatalog, FindsTable};
 
@@ -14,13 +14,13 @@ use crate::found::ask_found;
 use crate::laws::what_tells_of_a_name_is_the_models;
 use crate::named::refused_by_name;
 use ctr_base::Origin;
-use ctr_catalog::find;
 use ctr_disk::{Disk, StoreFault};
 use ctr_statement::table_of;
 use ctr_store::Store;
 use ctr_txn::Txn;
 use ctr_types::{Act, Name, Statement};
 use ctr_undamaged::a_catalog_search_meets_no_damage;
+use ctr_views::find;
 
 // On the table of a name.
 fn ask_named<D: Disk, O: Origin>(

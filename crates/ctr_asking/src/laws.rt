@@ -9,7 +9,7 @@ ghost use Rattle.ctr_model.specs.State.{view};
 ghost use Rattle.ctr_model.specs.Refusals.{table_of, presence_refusals, value_refusals, busy_by, locked_by, schema_changed_by, row_changed_by, refusal_of};
 ghost use Rattle.ctr_area.specs.Images.{is_live};
 ghost use Rattle.ctr_names.specs.Search.{IsEntryFound, IsNoneFound};
-ghost use Rattle.ctr_actions.specs.Sites.{Site};
+ghost use Rattle.ctr_views.specs.actions_Sites.{Site};
 ghost use Rattle.ctr_locks.specs.Held.{IsInOrder, locked_among};
 ghost use Rattle.ctr_locks.specs.Shows.{IsOnlyEntry};
 ghost use Rattle.ctr_asking.specs.declared.asker.Asker.{Asker as WhoAsks};

@@ -6,13 +6,12 @@ ghost use Rattle.ctr_model.specs.State.{has_name};
 ghost use Rattle.ctr_base.specs.Base.{WhereSound};
 ghost use Rattle.ctr_record_effects.specs.Standing.{IsDatabaseState};
 ghost use Rattle.ctr_walk.specs.Damage.{ReadsPages};
-ghost use Rattle.ctr_actions.specs.Sites.{site_of};
+ghost use Rattle.ctr_views.specs.actions_Sites.{site_of};
 ghost use Rattle.ctr_txn.specs.Numbered.{number_asked};
 ghost use Rattle.ctr_asking.specs.Causes.{presence_refused, busy_at, later, change_number, last_change};
 
 use crate::asker::Asker;
 use ctr_base::Origin;
-use ctr_catalog::changed;
 use ctr_disk::{Disk, StoreFault};
 use ctr_snap::Snapshot;
 use ctr_statement::{changes_schema, creates};
@@ -20,6 +19,7 @@ use ctr_store::Store;
 use ctr_txn::Txns;
 use ctr_types::{Name, Refusal, Statement, Xid};
 use ctr_undamaged::a_catalog_search_meets_no_damage;
+use ctr_views::changed;
 
 // Whether the table is there as the statement wants it.
 pub(crate) fn presence(statement: &Statement, found: Option<u8>) -> Option<Refusal>

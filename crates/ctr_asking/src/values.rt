@@ -7,8 +7,8 @@ ghost use Rattle.ctr_page.specs.declared.table.TheConstants.{PAGE_SIZE};
 ghost use Rattle.ctr_record_effects.specs.States.{pages_in, area_in};
 ghost use Rattle.ctr_record_effects.specs.Standing.{IsDatabaseState};
 ghost use Rattle.ctr_walk.specs.Damage.{searched, EndsOnPage, ReadsPages};
-ghost use Rattle.ctr_catalog.specs.Finding.{checks_at};
-ghost use Rattle.ctr_catalog.specs.Columns.{EndsChecked};
+ghost use Rattle.ctr_views.specs.catalog_Finding.{checks_at};
+ghost use Rattle.ctr_views.specs.catalog_Columns.{EndsChecked};
 ghost use Rattle.ctr_asking.specs.Values.{ValuesSaid, bad_in};
 
 use crate::columns::bad_value;

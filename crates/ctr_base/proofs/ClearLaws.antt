@@ -4,14 +4,14 @@ use Rattle.std.proofs.lemmas.Bool.{cases_lt}
 use Rattle.std.proofs.lemmas.List.{take_at, take-take, drop-take, length-take-le, length-replicate}
 use Rattle.ctr_types.specs.declared.file.File.TheVariants.{Pages}
 use Rattle.ctr_disk.specs.Image.{Image, content}
-use Rattle.ctr_home.specs.declared.root.Root.{Root}
-use Rattle.ctr_home.specs.declared.block.Block.TheVariants.{Page}
-use Rattle.ctr_home.specs.declared.block.Home.{Home}
-use Rattle.ctr_home.specs.declared.block.Home.TheVariants.{First, Second}
-use Rattle.ctr_home.specs.Blocks.{zero_bytes, opens_to, greater, held_at, home_place, stamp_in, value_home, value_of}
-use Rattle.ctr_home.specs.Roots.{IsRoot, SaysRoot, root_value}
-use Rattle.ctr_log.specs.Kept.{kept_log, HoldsLog}
-use Rattle.ctr_pool.specs.Pages.{PageHeld}
+use Rattle.ctr_redo.specs.home_Root.{Root}
+use Rattle.ctr_redo.specs.home_Block_TheVariants.{Page}
+use Rattle.ctr_redo.specs.home_Home.{Home}
+use Rattle.ctr_redo.specs.home_Home.TheVariants.{First, Second}
+use Rattle.ctr_redo.specs.home_Blocks.{zero_bytes, opens_to, greater, held_at, home_place, stamp_in, value_home, value_of}
+use Rattle.ctr_redo.specs.home_Roots.{IsRoot, SaysRoot, root_value}
+use Rattle.ctr_redo.specs.log_Kept.{kept_log, HoldsLog}
+use Rattle.ctr_redo.specs.ctr_pool.Pages.{PageHeld}
 use Rattle.ctr_redo.specs.ctr_meta.Tables.{no_tables}
 use Rattle.ctr_redo.specs.Fitting.{EachFits, TablesGoOn}
 use Rattle.ctr_redo.specs.States.{state_of}

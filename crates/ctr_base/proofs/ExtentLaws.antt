@@ -5,9 +5,9 @@ use Rattle.std.proofs.lemmas.List.{append-nil, take_at, drop-drop, take-append-l
 use Rattle.ctr_types.specs.declared.file.File.TheVariants.{Pages}
 use Rattle.ctr_disk.specs.Image.{Image, write_of, TornImage}
 use Rattle.ctr_disk.proofs.Torn.{same_but}
-use Rattle.ctr_home.specs.declared.block.Block.TheVariants.{Page}
-use Rattle.ctr_home.specs.Blocks.{zero_bytes, opens_to, greater, value_of}
-use Rattle.ctr_home.proofs.HomeLemmas.{opened_shut}
+use Rattle.ctr_redo.specs.home_Block_TheVariants.{Page}
+use Rattle.ctr_redo.specs.home_Blocks.{zero_bytes, opens_to, greater, value_of}
+use Rattle.ctr_redo.proofs.home_HomeLemmas.{opened_shut}
 use Rattle.ctr_base.specs.Extent.{KeepsPages, AreCleared}
 
 pub keeps_start : (n : ℕ) (old c : Image) → c ≡ old → KeepsPages n old c

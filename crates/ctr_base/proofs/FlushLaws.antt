@@ -5,15 +5,15 @@ use Rattle.std.proofs.lemmas.List.{append-nil, take_all, drop_all, length-map}
 use Rattle.ctr_types.specs.declared.file.File.{File}
 use Rattle.ctr_disk.specs.declared.disk.Disk.{Ghosts}
 use Rattle.ctr_disk.specs.declared.fault.StoreFault.{StoreFault}
-use Rattle.ctr_home.specs.declared.root.Root.{Root}
+use Rattle.ctr_redo.specs.home_Root.{Root}
 use Rattle.ctr_disk.specs.Device.{LeavesOnly, IsDurable}
 use Rattle.ctr_disk.specs.Image.{OtherFilesStay}
 use Rattle.ctr_disk.proofs.Moments.{weaker}
-use Rattle.ctr_log.specs.Logs.{end_behind, IsEmptied, CountsFlush}
-use Rattle.ctr_log.specs.Kept.{kept_log, HoldsLog, WritesBehind, KeepsPrefix, GoesOnWith}
-use Rattle.ctr_rec.specs.declared.record.Record.{Record}
-use Rattle.ctr_rec.specs.Read.{record_in}
-use Rattle.ctr_pool.specs.Below.{HoldsStill}
+use Rattle.ctr_redo.specs.log_Logs.{end_behind, IsEmptied, CountsFlush}
+use Rattle.ctr_redo.specs.log_Kept.{kept_log, HoldsLog, WritesBehind, KeepsPrefix, GoesOnWith}
+use Rattle.ctr_redo.specs.rec_Record.{Record}
+use Rattle.ctr_redo.specs.rec_Read.{record_in}
+use Rattle.ctr_redo.specs.ctr_pool.Below.{HoldsStill}
 use Rattle.ctr_redo.specs.Overlaid.{overlaid}
 use Rattle.ctr_redo.specs.States.{Stored, state_of, steps, with_more, next_of}
 use Rattle.ctr_redo.specs.Images.{records_in, stored_in, IsSound, FoldsFront, IsLogFile}

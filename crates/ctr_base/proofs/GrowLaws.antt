@@ -3,19 +3,19 @@ use Rattle.std.proofs.Common.{◌≡◌, ◌⊎◌, inl, inr, ⊎_elim, ℕ, ◌
 use Rattle.std.specs.Prelude.{min}
 use Rattle.ctr_disk.specs.declared.disk.Disk.{Ghosts}
 use Rattle.ctr_disk.specs.Image.{Image}
-use Rattle.ctr_home.specs.declared.root.Root.{Root}
+use Rattle.ctr_redo.specs.home_Root.{Root}
 use Rattle.ctr_disk.specs.Device.{LeavesOnly, IsDurable}
 use Rattle.ctr_disk.proofs.Moments.{weaker}
-use Rattle.ctr_home.specs.declared.block.Block.TheVariants.{Page, Root as RootBlock}
-use Rattle.ctr_home.specs.Blocks.{value_of}
-use Rattle.ctr_home.specs.Roots.{IsRoot}
-use Rattle.ctr_home.specs.Writing.{OthersStay}
-use Rattle.ctr_log.specs.Kept.{kept_log}
-use Rattle.ctr_rec.specs.declared.record.Record.{Record}
+use Rattle.ctr_redo.specs.home_Block_TheVariants.{Page, Root as RootBlock}
+use Rattle.ctr_redo.specs.home_Blocks.{value_of}
+use Rattle.ctr_redo.specs.home_Roots.{IsRoot}
+use Rattle.ctr_redo.specs.home_Writing.{OthersStay}
+use Rattle.ctr_redo.specs.log_Kept.{kept_log}
+use Rattle.ctr_redo.specs.rec_Record.{Record}
 use Rattle.ctr_redo.specs.ctr_meta.Tables.{no_tables}
 use Rattle.ctr_redo.specs.ctr_meta.Effects.{tables_of}
-use Rattle.ctr_pool.specs.Pages.{PageHeld}
-use Rattle.ctr_pool.specs.Below.{HoldsStill}
+use Rattle.ctr_redo.specs.ctr_pool.Pages.{PageHeld}
+use Rattle.ctr_redo.specs.ctr_pool.Below.{HoldsStill}
 use Rattle.ctr_redo.specs.Overlaid.{overlaid}
 use Rattle.ctr_redo.specs.States.{State, page_limit, state_of, counting, grown}
 use Rattle.ctr_redo.specs.Images.{records_in, home_in, stored_in, IsSound, FoldsTo, FoldsGrown}

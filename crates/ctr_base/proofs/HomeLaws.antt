@@ -5,16 +5,16 @@ use Rattle.std.proofs.lemmas.Bool.{lt-ltb}
 use Rattle.std.proofs.lemmas.Bool.Decides.{eqb_tells}
 use Rattle.ctr_types.specs.declared.file.File.TheVariants.{Pages}
 use Rattle.ctr_disk.specs.declared.disk.Disk.{Ghosts}
-use Rattle.ctr_home.specs.declared.root.Root.{Root}
+use Rattle.ctr_redo.specs.home_Root.{Root}
 use Rattle.ctr_disk.specs.declared.fault.StoreFault.{StoreFault}
 use Rattle.ctr_disk.specs.declared.fault.StoreFault.TheVariants.{Fault, Damaged}
 use Rattle.ctr_disk.specs.Image.{Image, content}
-use Rattle.ctr_home.specs.declared.block.Block.TheVariants.{Page, Root as RootBlock}
-use Rattle.ctr_home.specs.Blocks.{BlockValue, held_at, value_of, value_place, page_with, blank_page}
-use Rattle.ctr_home.specs.Reading.{IsMisnumbered, IsFaultOr}
-use Rattle.ctr_home.specs.Roots.{SaysRoot}
-use Rattle.ctr_home.specs.Writing.{OthersStay, with_body}
-use Rattle.ctr_pool.specs.Below.{IsFound}
+use Rattle.ctr_redo.specs.home_Block_TheVariants.{Page, Root as RootBlock}
+use Rattle.ctr_redo.specs.home_Blocks.{BlockValue, held_at, value_of, value_place, page_with, blank_page}
+use Rattle.ctr_redo.specs.home_Reading.{IsMisnumbered, IsFaultOr}
+use Rattle.ctr_redo.specs.home_Roots.{SaysRoot}
+use Rattle.ctr_redo.specs.home_Writing.{OthersStay, with_body}
+use Rattle.ctr_redo.specs.ctr_pool.Below.{IsFound}
 use Rattle.ctr_redo.specs.Images.{home_in}
 use Rattle.ctr_base.specs.declared.base.Base.{Base}
 use Rattle.ctr_base.specs.Homes.{HasSameHome, IsWrittenSince, IsSince, HomesSince}

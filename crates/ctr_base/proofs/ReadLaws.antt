@@ -6,14 +6,14 @@ use Rattle.std.proofs.lemmas.Bool.Decides.{eqb_tells}
 use Rattle.ctr_types.specs.declared.file.Damage.{Damage}
 use Rattle.ctr_types.specs.declared.file.File.{File}
 use Rattle.ctr_disk.specs.Image.{Image}
-use Rattle.ctr_home.specs.declared.root.Root.{Root}
+use Rattle.ctr_redo.specs.home_Root.{Root}
 use Rattle.ctr_disk.specs.declared.fault.StoreFault.{StoreFault}
 use Rattle.ctr_disk.specs.declared.fault.StoreFault.TheVariants.{Fault, Damaged}
-use Rattle.ctr_home.specs.declared.block.Block.TheVariants.{Page}
-use Rattle.ctr_home.specs.Blocks.{BlockValue, file_of, value_of, value_place, page_with, blank_page}
-use Rattle.ctr_home.specs.Checks.{check_of, judged}
-use Rattle.ctr_home.specs.Reading.{IsMisnumbered, IsFaultOr}
-use Rattle.ctr_home.specs.Writing.{IsAbove}
+use Rattle.ctr_redo.specs.home_Block_TheVariants.{Page}
+use Rattle.ctr_redo.specs.home_Blocks.{BlockValue, file_of, value_of, value_place, page_with, blank_page}
+use Rattle.ctr_redo.specs.home_Checks.{check_of, judged}
+use Rattle.ctr_redo.specs.home_Reading.{IsMisnumbered, IsFaultOr}
+use Rattle.ctr_redo.specs.home_Writing.{IsAbove}
 use Rattle.ctr_redo.specs.Images.{home_in, IsSound}
 
 passes : (file : File) (at want got : ℕ) (e : StoreFault) → got ≡ want → judged file (check_of at want got ∷ []) ≡ Err e → ⊥

@@ -4,9 +4,9 @@ use Rattle.std.specs.Prelude.{codes}
 use Rattle.std.proofs.lemmas.List.{append-nil}
 use Rattle.ctr_bytes.specs.Fields.{spelled, field}
 use Rattle.ctr_bytes.proofs.FieldLaws.{field_at, length-spelled}
-use Rattle.ctr_home.specs.declared.root.Root.{Root}
-use Rattle.ctr_home.specs.Blocks.{BlockValue}
-use Rattle.ctr_home.specs.Roots.{root_block, IsRoot, SaysRoot}
+use Rattle.ctr_redo.specs.home_Root.{Root}
+use Rattle.ctr_redo.specs.home_Blocks.{BlockValue}
+use Rattle.ctr_redo.specs.home_Roots.{root_block, IsRoot, SaysRoot}
 
 module _ (r : Root) (root : IsRoot r) where
   abbrev to_format : List ℕ

@@ -9,23 +9,23 @@ use Rattle.ctr_disk.specs.declared.disk.Disk.{Ghosts}
 use Rattle.ctr_disk.specs.Image.{Image, content, OtherFilesStay}
 use Rattle.ctr_disk.specs.Device.{LeavesOnly, IsDurable}
 use Rattle.ctr_disk.proofs.Moments.{weaker}
-use Rattle.ctr_home.specs.declared.root.Root.{Root}
-use Rattle.ctr_home.specs.declared.block.Block.TheVariants.{Root as RootBlock}
-use Rattle.ctr_home.specs.Blocks.{value_of}
-use Rattle.ctr_home.specs.Roots.{SaysRoot, root_block}
-use Rattle.ctr_home.specs.Writing.{OthersStay, IsOldOrNewValue}
-use Rattle.ctr_log.specs.Logs.{records}
-use Rattle.ctr_log.specs.Reading.{log_file}
-use Rattle.ctr_log.specs.Kept.{kept_log, other_file, next_file, has_newer, HoldsLog, StartsAt, WritesOne, WritesTwo, WritesBy, WritesBehind, KeepsPrefix, GoesOnWith, IsStarted, BeginsFile}
-use Rattle.ctr_log.proofs.KeptLaws.{log_in_is}
-use Rattle.ctr_log.proofs.StartLemmas.{next_other}
-use Rattle.ctr_log.proofs.ForgetLaws.{some_records, alone}
-use Rattle.ctr_rec.specs.declared.record.Record.{Record}
-use Rattle.ctr_rec.specs.Read.{record_in}
+use Rattle.ctr_redo.specs.home_Root.{Root}
+use Rattle.ctr_redo.specs.home_Block_TheVariants.{Root as RootBlock}
+use Rattle.ctr_redo.specs.home_Blocks.{value_of}
+use Rattle.ctr_redo.specs.home_Roots.{SaysRoot, root_block}
+use Rattle.ctr_redo.specs.home_Writing.{OthersStay, IsOldOrNewValue}
+use Rattle.ctr_redo.specs.log_Logs.{records}
+use Rattle.ctr_redo.specs.log_Reading.{log_file}
+use Rattle.ctr_redo.specs.log_Kept.{kept_log, other_file, next_file, has_newer, HoldsLog, StartsAt, WritesOne, WritesTwo, WritesBy, WritesBehind, KeepsPrefix, GoesOnWith, IsStarted, BeginsFile}
+use Rattle.ctr_redo.proofs.log_KeptLaws.{log_in_is}
+use Rattle.ctr_redo.proofs.log_StartLemmas.{next_other}
+use Rattle.ctr_redo.proofs.log_ForgetLaws.{some_records, alone}
+use Rattle.ctr_redo.specs.rec_Record.{Record}
+use Rattle.ctr_redo.specs.rec_Read.{record_in}
 use Rattle.ctr_redo.specs.ctr_meta.Tables.{Tables, no_tables}
 use Rattle.ctr_redo.specs.ctr_meta.Effects.{tables_of}
-use Rattle.ctr_pool.specs.Pages.{PageHeld}
-use Rattle.ctr_pool.specs.Below.{HoldsStill}
+use Rattle.ctr_redo.specs.ctr_pool.Pages.{PageHeld}
+use Rattle.ctr_redo.specs.ctr_pool.Below.{HoldsStill}
 use Rattle.ctr_redo.specs.Overlaid.{overlaid, touches}
 use Rattle.ctr_redo.specs.States.{State, Stored, state_of, steps, with_more, next_of, AreHome}
 use Rattle.ctr_redo.specs.Fitting.{EachFits, FitsBehind, MayFollow}

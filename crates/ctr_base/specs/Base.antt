@@ -4,19 +4,19 @@ use Rattle.ctr_disk.specs.declared.disk.Disk.{Ghosts}
 use Rattle.ctr_disk.specs.Device.{LeavesOnly, IsDurable}
 use Rattle.ctr_disk.specs.Image.{Image, content}
 use Rattle.ctr_types.specs.declared.file.File.TheVariants.{Pages}
-use Rattle.ctr_home.specs.declared.root.Root.{Root}
-use Rattle.ctr_log.specs.Kept.{WritesBehind, StartsAt}
-use Rattle.ctr_log.specs.Logs.{Log, Batches, GoesOn, buffer_size, log_end, WaitsOrNone}
-use Rattle.ctr_rec.specs.declared.record.Record.{Record}
+use Rattle.ctr_redo.specs.home_Root.{Root}
+use Rattle.ctr_redo.specs.log_Kept.{WritesBehind, StartsAt}
+use Rattle.ctr_redo.specs.log_Logs.{Log, Batches, GoesOn, buffer_size, log_end, WaitsOrNone}
+use Rattle.ctr_redo.specs.rec_Record.{Record}
 use Rattle.ctr_disk.specs.declared.fault.StoreFault.{StoreFault}
 use Rattle.ctr_disk.specs.declared.fault.StoreFault.TheVariants.{Fault}
-use Rattle.ctr_pool.specs.Pages.{PageHeld}
-use Rattle.ctr_pool.specs.declared.backing.Backing.{Ghosts as BackingGhosts}
+use Rattle.ctr_redo.specs.ctr_pool.Pages.{PageHeld}
+use Rattle.ctr_redo.specs.ctr_pool.declared.backing.Backing.{Ghosts as BackingGhosts}
 use Rattle.ctr_redo.specs.Overlaid.{overlaid}
-use Rattle.ctr_home.specs.declared.block.Block.TheVariants.{Page, Root as RootBlock}
-use Rattle.ctr_home.specs.Blocks.{BlockValue, value_of}
-use Rattle.ctr_home.specs.Reading.{IsMisnumbered}
-use Rattle.ctr_home.specs.Roots.{SaysRoot}
+use Rattle.ctr_redo.specs.home_Block_TheVariants.{Page, Root as RootBlock}
+use Rattle.ctr_redo.specs.home_Blocks.{BlockValue, value_of}
+use Rattle.ctr_redo.specs.home_Reading.{IsMisnumbered}
+use Rattle.ctr_redo.specs.home_Roots.{SaysRoot}
 use Rattle.ctr_redo.specs.Fitting.{MayFollow}
 use Rattle.ctr_redo.specs.States.{Stored, state_of, steps, with_more, next_of}
 use Rattle.ctr_redo.specs.Images.{records_in, home_in, stored_in, IsSound, FoldsFront, IsLogFile}

@@ -5,21 +5,21 @@ use Rattle.std.proofs.lemmas.List.{append-nil, drop-drop}
 use Rattle.ctr_types.specs.declared.file.File.{File}
 use Rattle.ctr_types.specs.declared.file.File.TheVariants.{Root as RootFile, LogA, LogB, Pages}
 use Rattle.ctr_disk.specs.declared.disk.Disk.{Ghosts}
-use Rattle.ctr_home.specs.declared.root.Root.{Root}
+use Rattle.ctr_redo.specs.home_Root.{Root}
 use Rattle.ctr_disk.specs.Device.{LeavesOnly, OnlyReads, IsDurable}
 use Rattle.ctr_disk.specs.Image.{Image, content}
 use Rattle.ctr_disk.proofs.Moments.{starts, joined, weaker, still_only}
-use Rattle.ctr_home.specs.declared.block.Block.TheVariants.{Page, Root as RootBlock}
-use Rattle.ctr_home.specs.Roots.{SaysRoot}
-use Rattle.ctr_home.specs.Blocks.{BlockValue, value_of, value_in, page_with, blank_page}
-use Rattle.ctr_home.specs.Writing.{IsOldOrNewValue, with_body, OthersStay}
-use Rattle.ctr_log.specs.Logs.{Log, Batches, HasLog, GoesOn, batches, records}
-use Rattle.ctr_log.specs.Reading.{log_file}
-use Rattle.ctr_log.specs.Kept.{kept_log, other_file, IsDropped, HoldsLog, StartsAt, WritesBy, WritesBehind}
-use Rattle.ctr_log.proofs.KeptLaws.{front_same}
-use Rattle.ctr_rec.specs.declared.record.Record.{Record}
-use Rattle.ctr_pool.specs.Pages.{PageHeld}
-use Rattle.ctr_pool.specs.Below.{PutsPage, HoldsStill}
+use Rattle.ctr_redo.specs.home_Block_TheVariants.{Page, Root as RootBlock}
+use Rattle.ctr_redo.specs.home_Roots.{SaysRoot}
+use Rattle.ctr_redo.specs.home_Blocks.{BlockValue, value_of, value_in, page_with, blank_page}
+use Rattle.ctr_redo.specs.home_Writing.{IsOldOrNewValue, with_body, OthersStay}
+use Rattle.ctr_redo.specs.log_Logs.{Log, Batches, HasLog, GoesOn, batches, records}
+use Rattle.ctr_redo.specs.log_Reading.{log_file}
+use Rattle.ctr_redo.specs.log_Kept.{kept_log, other_file, IsDropped, HoldsLog, StartsAt, WritesBy, WritesBehind}
+use Rattle.ctr_redo.proofs.log_KeptLaws.{front_same}
+use Rattle.ctr_redo.specs.rec_Record.{Record}
+use Rattle.ctr_redo.specs.ctr_pool.Pages.{PageHeld}
+use Rattle.ctr_redo.specs.ctr_pool.Below.{PutsPage, HoldsStill}
 use Rattle.ctr_redo.specs.Overlaid.{overlaid}
 use Rattle.ctr_redo.specs.States.{State, Stored, state_of, steps, with_more, home_put, next_of}
 use Rattle.ctr_redo.specs.Images.{records_in, home_in, stored_in, IsSound, FoldsFront, IsLogFile, MayStand}

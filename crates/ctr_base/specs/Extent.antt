@@ -2,7 +2,7 @@
 use Rattle.std.specs.Prelude.{◌≡◌, ◌≤◌, ◌*◌, ◌-◌, ℕ, ◌++◌, length, take, drop}
 use Rattle.ctr_types.specs.declared.file.File.TheVariants.{Pages}
 use Rattle.ctr_disk.specs.Image.{Image, OtherFilesStay}
-use Rattle.ctr_home.specs.Blocks.{zero_bytes}
+use Rattle.ctr_redo.specs.home_Blocks.{zero_bytes}
 
 -- The first bytes of the file of pages are as they were, so many of them, and the other files; and
 -- it isn't shorter.

@@ -4,10 +4,10 @@ use Rattle.ctr_disk.specs.declared.disk.Disk.{Ghosts}
 use Rattle.ctr_disk.specs.Image.{Image}
 use Rattle.ctr_bytes.specs.Fields.{field}
 use Rattle.ctr_disk.specs.declared.fault.StoreFault.{StoreFault}
-use Rattle.ctr_log.specs.Kept.{other_byte}
-use Rattle.ctr_rec.specs.Read.{record_in}
+use Rattle.ctr_redo.specs.log_Kept.{other_byte}
+use Rattle.ctr_redo.specs.rec_Read.{record_in}
 use Rattle.ctr_redo.specs.ctr_meta.Effects.{effect, tables_of}
-use Rattle.ctr_pool.specs.Below.{HoldsStill}
+use Rattle.ctr_redo.specs.ctr_pool.Below.{HoldsStill}
 use Rattle.ctr_redo.specs.Overlaid.{overlaid}
 use Rattle.ctr_redo.specs.States.{state_of, AreHome}
 use Rattle.ctr_redo.specs.Fitting.{FitsBehind}

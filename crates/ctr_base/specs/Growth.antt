@@ -2,17 +2,17 @@
 use Rattle.std.specs.Prelude.{◌≡◌, ◌⊎◌, ℕ, ◌+◌, ◌*◌, ◌≤◌, ◌<◌, Result, OnOk, OnErr}
 use Rattle.ctr_disk.specs.declared.disk.Disk.{Ghosts}
 use Rattle.ctr_disk.specs.Image.{Image}
-use Rattle.ctr_home.specs.declared.root.Root.{Root}
+use Rattle.ctr_redo.specs.home_Root.{Root}
 use Rattle.ctr_disk.specs.Device.{LeavesOnly}
-use Rattle.ctr_home.specs.declared.block.Block.TheVariants.{Root as RootBlock}
-use Rattle.ctr_home.specs.Blocks.{zero_bytes}
-use Rattle.ctr_home.specs.Roots.{root_block}
-use Rattle.ctr_home.specs.Writing.{IsOldOrNewValue, IsNewValue}
+use Rattle.ctr_redo.specs.home_Block_TheVariants.{Root as RootBlock}
+use Rattle.ctr_redo.specs.home_Blocks.{zero_bytes}
+use Rattle.ctr_redo.specs.home_Roots.{root_block}
+use Rattle.ctr_redo.specs.home_Writing.{IsOldOrNewValue, IsNewValue}
 use Rattle.ctr_redo.specs.States.{State, state_of, counting, grown, page_limit, page_at}
 use Rattle.ctr_redo.specs.Images.{FoldsGrown}
 use Rattle.ctr_base.specs.declared.base.Base.{Base}
 use Rattle.ctr_base.specs.Base.{stored_of, now_of, home_of, MayPut, StandsQuiet}
-use Rattle.ctr_pool.specs.Below.{HoldsStill}
+use Rattle.ctr_redo.specs.ctr_pool.Below.{HoldsStill}
 use Rattle.ctr_disk.specs.declared.fault.StoreFault.{StoreFault}
 use Rattle.ctr_base.specs.Extent.{KeepsPages, AreCleared}
 

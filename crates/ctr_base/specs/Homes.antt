@@ -2,14 +2,14 @@
 use Rattle.std.specs.Prelude.{◌≡◌, ◌⊎◌, ◌+◌, ◌-◌, ◌<◌, ◌≤◌, ℕ, min, List, [], ◌∷◌, Option, Some, Err}
 use Rattle.ctr_types.specs.declared.file.File.TheVariants.{Pages}
 use Rattle.ctr_disk.specs.Image.{Image}
-use Rattle.ctr_home.specs.declared.root.Root.{Root}
+use Rattle.ctr_redo.specs.home_Root.{Root}
 use Rattle.ctr_disk.specs.declared.fault.StoreFault.{StoreFault}
-use Rattle.ctr_home.specs.declared.block.Block.TheVariants.{Page, Root as RootBlock}
-use Rattle.ctr_home.specs.declared.checks.Check.{Check}
-use Rattle.ctr_home.specs.Blocks.{BlockValue, value_of, value_place, page_with}
-use Rattle.ctr_home.specs.Checks.{check_of, judged}
-use Rattle.ctr_home.specs.Reading.{number_check}
-use Rattle.ctr_home.specs.Roots.{SaysRoot}
+use Rattle.ctr_redo.specs.home_Block_TheVariants.{Page, Root as RootBlock}
+use Rattle.ctr_redo.specs.home_Check.{Check}
+use Rattle.ctr_redo.specs.home_Blocks.{BlockValue, value_of, value_place, page_with}
+use Rattle.ctr_redo.specs.home_Checks.{check_of, judged}
+use Rattle.ctr_redo.specs.home_Reading.{number_check}
+use Rattle.ctr_redo.specs.home_Roots.{SaysRoot}
 
 -- The checks of a value of a page whose home begins at a place, in order: its number is the page's,
 -- and its stamp is below the next LSN.

@@ -1,7 +1,7 @@
 -- What each call of the backing keeps, however it ends, joined over calls.
 use Rattle.std.proofs.Common.{◌≡◌, ◌⊎◌, inl, inr, ⊎_elim, ℕ, [], ◌+◌, ◌^◌, ◌≤◌, refl, ◌∙◌, arith}
 use Rattle.ctr_disk.specs.declared.disk.Disk.{Ghosts}
-use Rattle.ctr_log.specs.Logs.{Log, WaitsOrNone, log_end}
+use Rattle.ctr_redo.specs.log_Logs.{Log, WaitsOrNone, log_end}
 use Rattle.ctr_base.specs.declared.base.Base.{Base}
 use Rattle.ctr_base.specs.Base.{GoesOnTo, KeepsBase}
 

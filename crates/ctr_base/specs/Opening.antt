@@ -1,14 +1,14 @@
 -- What the opening of a disk finds.
 use Rattle.std.specs.Prelude.{◌≡◌, ◌⊎◌, ◌*◌, ◌≤◌, ℕ, max, List, [], ◌∷◌, length, Option, None, Some, Err}
 use Rattle.ctr_types.specs.declared.file.File.TheVariants.{Pages}
-use Rattle.ctr_home.specs.declared.root.Root.{Root}
+use Rattle.ctr_redo.specs.home_Root.{Root}
 use Rattle.ctr_disk.specs.declared.fault.StoreFault.{StoreFault}
 use Rattle.ctr_disk.specs.Image.{Image, content}
-use Rattle.ctr_home.specs.declared.block.Block.TheVariants.{Root as RootBlock}
-use Rattle.ctr_home.specs.declared.checks.Check.{Check}
-use Rattle.ctr_home.specs.Blocks.{value_of}
-use Rattle.ctr_home.specs.Checks.{check_of, judged}
-use Rattle.ctr_home.specs.Roots.{SaysRoot, ReadsRoot}
+use Rattle.ctr_redo.specs.home_Block_TheVariants.{Root as RootBlock}
+use Rattle.ctr_redo.specs.home_Check.{Check}
+use Rattle.ctr_redo.specs.home_Blocks.{value_of}
+use Rattle.ctr_redo.specs.home_Checks.{check_of, judged}
+use Rattle.ctr_redo.specs.home_Roots.{SaysRoot, ReadsRoot}
 
 -- the file of pages has all that are counted, at least
 abbrev pub size_check : ℕ → List ℕ → Check

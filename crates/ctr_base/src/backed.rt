@@ -4,9 +4,7 @@ ghost use Rattle.std.specs.Prelude.{◌≡◌, ◌<◌};
 use crate::base::Base;
 use crate::origin::Origin;
 use ctr_disk::{Disk, StoreFault};
-use ctr_log::Lsn;
-use ctr_pool::Backing;
-use ctr_rec::PageNo;
+use ctr_redo::{Backing, Lsn, PageNo};
 
 impl<D: Disk, O: Origin> Backing for Base<D, O> {
     ghost use Rattle.ctr_disk.specs.declared.fault.StoreFault.TheVariants.{Fault};

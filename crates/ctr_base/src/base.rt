@@ -7,9 +7,7 @@ ghost use Rattle.ctr_disk.specs.declared.fault.StoreFault.TheVariants.{Fault};
 use crate::origin::Origin;
 use crate::reading::read_numbered;
 use ctr_disk::{Disk, StoreFault};
-use ctr_home::{Block, Root, write_home};
-use ctr_log::{LogFile, Lsn};
-use ctr_rec::PageNo;
+use ctr_redo::{Block, LogFile, Lsn, PageNo, Root, write_home};
 use std::marker::PhantomData;
 
 /// A disk, the writer of its log, and what its root says. The type names what a read of the disk gave when it was opened.
@@ -24,10 +22,10 @@ pub struct Base<D, O> {
 }
 
 impl<D: Disk, O: Origin> Base<D, O> {
-    ghost use Rattle.ctr_pool.specs.Pages.{PageHeld};
-    ghost use Rattle.ctr_pool.specs.Below.{HoldsStill};
+    ghost use Rattle.ctr_redo.specs.ctr_pool.Pages.{PageHeld};
+    ghost use Rattle.ctr_redo.specs.ctr_pool.Below.{HoldsStill};
     ghost use Rattle.ctr_base.specs.Base.{home_of, MaySave, MayPut, IsSoundImage, StandsQuiet, LeavesIf, MovesIf, KeepsBase, IsHome, GoesHome, FindsNumber};
-    ghost use Rattle.ctr_pool.specs.Below.{IsFound};
+    ghost use Rattle.ctr_redo.specs.ctr_pool.Below.{IsFound};
 
     /// Makes what waits durable. Where nothing does, the disk is left alone.
     pub fn flush(&mut self) -> Result<(), StoreFault>

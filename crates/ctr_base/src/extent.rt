@@ -1,9 +1,9 @@
 // Zeros over the homes of pages: before a root counts them they are blank.
 ghost use Rattle.std.specs.Prelude.{◌≡◌, ◌≤◌, ◌*◌, ℕ, IsTrue, length, OnOk};
 ghost use Rattle.ctr_disk.specs.Image.{Image};
-ghost use Rattle.ctr_home.specs.declared.root.Root.{Root};
+ghost use Rattle.ctr_redo.specs.home_Root.{Root};
 ghost use Rattle.ctr_disk.specs.Device.{WhereTold, LeavesOnly, IsDurable, IsSettled, Counts};
-ghost use Rattle.ctr_home.specs.Roots.{IsRoot};
+ghost use Rattle.ctr_redo.specs.home_Roots.{IsRoot};
 ghost use Rattle.ctr_redo.specs.States.{state_of};
 ghost use Rattle.ctr_redo.specs.Images.{stored_in, IsSound, CanCount};
 ghost use Rattle.ctr_base.specs.declared.growing.TheConstants.{MOST_PAGES};

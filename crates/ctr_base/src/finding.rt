@@ -4,16 +4,15 @@ ghost use Rattle.ctr_types.specs.declared.file.File.TheVariants.{Pages};
 ghost use Rattle.ctr_disk.specs.Image.{content};
 ghost use Rattle.ctr_disk.specs.Device.{WhereTold, OnlyReads, Counts, CountsAs};
 ghost use Rattle.ctr_disk.specs.declared.fault.StoreFault.TheVariants.{Fault};
-ghost use Rattle.ctr_home.specs.declared.block.Block.TheVariants.{Page};
-ghost use Rattle.ctr_home.specs.Blocks.{BlockValue, held_at, stamp_in, greater, value_home, page_with};
+ghost use Rattle.ctr_redo.specs.home_Block_TheVariants.{Page};
+ghost use Rattle.ctr_redo.specs.home_Blocks.{BlockValue, held_at, stamp_in, greater, value_home, page_with};
 ghost use Rattle.ctr_base.specs.Homes.{FindsValue};
 
 use crate::base::Base;
 use crate::origin::Origin;
 use ctr_bytes::get_u64;
 use ctr_disk::{Disk, Failed, Stamp, StoreFault};
-use ctr_home::{Block, Home};
-use ctr_rec::PageNo;
+use ctr_redo::{Block, Home, PageNo};
 use ctr_types::File;
 
 /// How many bytes each home of a page has.

@@ -2,11 +2,11 @@
 ghost use Rattle.std.specs.Prelude.{◌≡◌, ◌≤◌, ◌<◌, ◌^◌, ◌++◌, ◌-◌, [], ◌∷◌, true, IsTrue, Err, length, drop, OnOk, OnErr};
 ghost use Rattle.ctr_disk.specs.declared.fault.StoreFault.TheVariants.{Fault};
 ghost use Rattle.ctr_disk.specs.Device.{WhereTold, LeavesOnly, IsSettled, CountsAs};
-ghost use Rattle.ctr_home.specs.declared.block.Block.TheVariants.{Root as RootBlock};
-ghost use Rattle.ctr_home.specs.Roots.{root_block};
-ghost use Rattle.ctr_home.specs.Writing.{IsOldOrNewValue};
-ghost use Rattle.ctr_log.specs.Kept.{CanBegin, IsStarted, KeepsWriter, other_byte};
-ghost use Rattle.ctr_rec.specs.Read.{record_in};
+ghost use Rattle.ctr_redo.specs.home_Block_TheVariants.{Root as RootBlock};
+ghost use Rattle.ctr_redo.specs.home_Roots.{root_block};
+ghost use Rattle.ctr_redo.specs.home_Writing.{IsOldOrNewValue};
+ghost use Rattle.ctr_redo.specs.log_Kept.{CanBegin, IsStarted, KeepsWriter, other_byte};
+ghost use Rattle.ctr_redo.specs.rec_Read.{record_in};
 ghost use Rattle.ctr_redo.specs.Images.{newer_root};
 ghost use Rattle.ctr_base.specs.Base.{WhereSound, LeavesBase, stored_of, StandsQuiet};
 ghost use Rattle.ctr_base.specs.Generations.{IsCheckpoint, SwitchesOver, OlderIsHome, NamesNewer};
@@ -14,7 +14,7 @@ ghost use Rattle.ctr_base.specs.Generations.{IsCheckpoint, SwitchesOver, OlderIs
 use crate::base::Base;
 use crate::origin::Origin;
 use ctr_disk::{Disk, StoreFault};
-use ctr_home::{Root, write_root};
+use ctr_redo::{Root, write_root};
 
 // The byte of a root for the file that this one doesn't name.
 fn other_byte(file: u8) -> u8

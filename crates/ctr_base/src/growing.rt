@@ -2,9 +2,9 @@
 ghost use Rattle.std.specs.Prelude.{◌≡◌, ◌≤◌, ◌<◌, ◌*◌, IsTrue, Err, length, OnOk, OnErr};
 ghost use Rattle.ctr_disk.specs.declared.fault.StoreFault.TheVariants.{Fault};
 ghost use Rattle.ctr_disk.specs.Device.{WhereTold, LeavesOnly, IsDurable, IsSettled, CountsAs};
-ghost use Rattle.ctr_home.specs.declared.block.Block.TheVariants.{Root as RootBlock};
-ghost use Rattle.ctr_home.specs.Blocks.{value_of};
-ghost use Rattle.ctr_home.specs.Writing.{IsAbove};
+ghost use Rattle.ctr_redo.specs.home_Block_TheVariants.{Root as RootBlock};
+ghost use Rattle.ctr_redo.specs.home_Blocks.{value_of};
+ghost use Rattle.ctr_redo.specs.home_Writing.{IsAbove};
 ghost use Rattle.ctr_redo.specs.States.{grown, state_of};
 ghost use Rattle.ctr_base.specs.Base.{WhereSound, now_of, StandsQuiet};
 ghost use Rattle.ctr_base.specs.declared.growing.TheConstants.{MOST_PAGES};
@@ -14,7 +14,7 @@ use crate::base::Base;
 use crate::extent::clear_pages;
 use crate::origin::Origin;
 use ctr_disk::{Disk, StoreFault};
-use ctr_home::{Root, write_root};
+use ctr_redo::{Root, write_root};
 
 /// How many pages are counted more at a time, and at least.
 pub const EXTENT: u32 = 64;

@@ -14,6 +14,10 @@ mod origin;
 mod reading;
 
 pub use base::Base;
+pub use ctr_redo::{
+    Block, Home, LogFile, Lsn, Meta, OpenError, Pool, ReadError, Root, Visit, Visitor, is_open,
+    make_logs, read_all, room_for, write_root,
+};
 pub use extent::{clear_pages, clearing_leaves_the_state};
 pub use growing::{EXTENT, MOST_PAGES};
 pub use opening::find_root;

@@ -4,13 +4,13 @@ ghost use Rattle.ctr_types.specs.declared.file.File.TheVariants.{Pages};
 ghost use Rattle.ctr_disk.specs.declared.fault.StoreFault.TheVariants.{Fault};
 ghost use Rattle.ctr_disk.specs.Image.{content};
 ghost use Rattle.ctr_disk.specs.Device.{WhereTold, IsDurable, OnlyReads, CountsAs};
-ghost use Rattle.ctr_home.specs.Checks.{TellsApart, judged};
-ghost use Rattle.ctr_home.specs.Reading.{IsFaultOr};
-ghost use Rattle.ctr_home.specs.Roots.{IsRoot};
+ghost use Rattle.ctr_redo.specs.home_Checks.{TellsApart, judged};
+ghost use Rattle.ctr_redo.specs.home_Reading.{IsFaultOr};
+ghost use Rattle.ctr_redo.specs.home_Roots.{IsRoot};
 ghost use Rattle.ctr_base.specs.Opening.{size_check, FindsRoot, IsRootDamage};
 
 use ctr_disk::{Disk, StoreFault};
-use ctr_home::{Check, Root, judge, read_root};
+use ctr_redo::{Check, Root, judge, read_root};
 use ctr_types::File;
 
 /// How many bytes of the file of pages each page has.

@@ -2,12 +2,12 @@
 ghost use Rattle.std.specs.Prelude.{◌≡◌, ◌≤◌, ◌<◌, Some, Ok, length, IfOk, IfErr, OnOk};
 ghost use Rattle.ctr_disk.specs.declared.fault.StoreFault.TheVariants.{Fault};
 ghost use Rattle.ctr_disk.specs.Device.{WhereTold, OnlyReads, CountsAs};
-ghost use Rattle.ctr_home.specs.declared.block.Block.TheVariants.{Page};
-ghost use Rattle.ctr_home.specs.Blocks.{BlockValue, value_of, page_at_home};
-ghost use Rattle.ctr_home.specs.Reading.{IsMisnumbered, IsFaultOr};
+ghost use Rattle.ctr_redo.specs.home_Block_TheVariants.{Page};
+ghost use Rattle.ctr_redo.specs.home_Blocks.{BlockValue, value_of, page_at_home};
+ghost use Rattle.ctr_redo.specs.home_Reading.{IsMisnumbered, IsFaultOr};
 
 use ctr_disk::{Disk, StoreFault};
-use ctr_home::{Block, read_home};
+use ctr_redo::{Block, read_home};
 
 /// Reads a page of a disk in which so many pages are counted, as it stands at home, and answers its LSN. A page that isn't
 /// counted is blank; one that is has its number there, or that is damage.

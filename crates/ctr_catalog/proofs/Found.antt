@@ -2,10 +2,10 @@
 use Rattle.std.proofs.Common.{◌≡◌, ℕ, ◌+◌, ◌*◌, ◌/◌, ◌%◌, ◌<◌, cond, List, [], Option, Ok, sym, ◌∙◌, ap}
 use Rattle.std.proofs.lemmas.Bool.{lt-ltb}
 use Rattle.ctr_snap.specs.Seeing.{SnapshotTaken}
-use Rattle.ctr_meta.specs.Tables.{Tables}
-use Rattle.ctr_page.specs.Reading.{piece}
-use Rattle.ctr_page.specs.Columns.{entry_in, entry_at}
-use Rattle.ctr_area.specs.Reading.{title_of, area_of}
+use Rattle.ctr_names.specs.meta_Tables.{Tables}
+use Rattle.ctr_names.specs.page_Reading.{piece}
+use Rattle.ctr_names.specs.page_Columns.{entry_in, entry_at}
+use Rattle.ctr_alloc.specs.area_Reading.{title_of, area_of}
 use Rattle.ctr_catalog.specs.declared.finding.MadeBy.{MadeBy}
 use Rattle.ctr_catalog.specs.Finding.{made_by, NamedSaid, stands_seen, change_since, is_made_so, change_made, entry_seen, changed_in}
 

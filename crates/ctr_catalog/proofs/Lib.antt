@@ -5,3 +5,4 @@ pub mod Made
 pub mod Found
 pub mod Searched
 pub mod Schemas
+pub use Rattle.ctr_names.proofs.Fates as names_Fates

@@ -2,11 +2,11 @@
 use Rattle.std.proofs.Common.{◌≡◌, ⊎_elim, inl, inr, ℕ, ◌+◌, ◌-◌, ◌*◌, ◌<◌, ◌≤◌, false, List, Option, None, Some, Result, Ok, Err, sym, ◌∙◌, ap, subst, arith}
 use Rattle.std.specs.Prelude.{◌==◌, IfOk, IfSome}
 use Rattle.std.proofs.lemmas.Bool.{cases_lt}
-use Rattle.ctr_redo.specs.States.{page_limit}
+use Rattle.ctr_alloc.specs.redo_States.{page_limit}
 use Rattle.ctr_rec.specs.declared.decoding.BadRecord.{BadRecord}
-use Rattle.ctr_page.specs.Searching.{IsFirst}
-use Rattle.ctr_area.specs.Areas.{Area}
-use Rattle.ctr_area.specs.Reading.{area_of}
+use Rattle.ctr_names.specs.page_Searching.{IsFirst}
+use Rattle.ctr_names.specs.area_Areas.{Area}
+use Rattle.ctr_alloc.specs.area_Reading.{area_of}
 use Rattle.ctr_catalog.specs.Entries.{frees_in}
 use Rattle.ctr_catalog.specs.Free.{EndsFreeEntry, EndsCatalog, is_free_entry}
 use Rattle.ctr_catalog.proofs.Titles.{free_in_area}

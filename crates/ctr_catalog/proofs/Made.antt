@@ -4,9 +4,9 @@ use Rattle.ctr_disk.specs.declared.disk.Disk.{Ghosts}
 use Rattle.ctr_disk.specs.Image.{Image}
 use Rattle.ctr_disk.specs.declared.fault.StoreFault.{StoreFault}
 use Rattle.ctr_rec.specs.declared.record.Record.{Record}
-use Rattle.ctr_store.specs.Store.{View}
-use Rattle.ctr_walk.specs.OneRecord.{LogsOne}
-use Rattle.ctr_walk.proofs.Joins.{fails_with}
+use Rattle.ctr_alloc.specs.store_Store.{View}
+use Rattle.ctr_alloc.specs.walk_OneRecord.{LogsOne}
+use Rattle.ctr_alloc.proofs.walk_Joins.{fails_with}
 
 module _ {D : Type 0} (first : Image) (g : Ghosts D) (r : Record) (a b : View D) where
   -- one record, whatever is answered of it

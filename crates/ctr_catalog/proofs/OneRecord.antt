@@ -2,12 +2,12 @@
 use Rattle.std.proofs.Common.{ℕ, ◌^◌, ◌<◌, ◌≤◌, List, length, refl, arith}
 use Rattle.ctr_types.specs.declared.value.Column.{Column}
 use Rattle.ctr_bytes.proofs.FieldLaws.{length-spelled}
-use Rattle.ctr_value.specs.Columns.{ColumnsFit}
-use Rattle.ctr_area.proofs.Made.{length-new}
-use Rattle.ctr_record_effects.specs.Changing.{create_record, drop_record, uncreate_record, undrop_record}
-use Rattle.ctr_store.specs.Store.{View, MayLog}
-use Rattle.ctr_walk.specs.OneRecord.{HasRoomForOne}
-use Rattle.ctr_walk.proofs.Records.{one_may}
+use Rattle.ctr_names.specs.value_Columns.{ColumnsFit}
+use Rattle.ctr_names.proofs.area_Made.{length-new}
+use Rattle.ctr_alloc.specs.record_effects_Changing.{create_record, drop_record, uncreate_record, undrop_record}
+use Rattle.ctr_alloc.specs.store_Store.{View, MayLog}
+use Rattle.ctr_alloc.specs.walk_OneRecord.{HasRoomForOne}
+use Rattle.ctr_alloc.proofs.walk_Records.{one_may}
 
 module _ {D : Type 0} (v : View D) (e : ℕ) (few : e < 32) (counted : 64 ≤ v.now.counted) where
   module _ (x : ℕ) (low : x < 2 ^ 64) where

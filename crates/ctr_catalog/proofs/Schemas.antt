@@ -1,7 +1,7 @@
 -- The columns of an entry of the catalog, as they are read.
 use Rattle.std.proofs.Common.{◌≡◌, ℕ, suc, ◌+◌, ◌-◌, ◌*◌, ◌<◌, List, ◌∷◌, ◌∙◌, ap, arith}
 use Rattle.ctr_bytes.specs.Fields.{field}
-use Rattle.ctr_page.specs.Columns.{name_in, column_kind_at, kind_said, columns_from}
+use Rattle.ctr_names.specs.page_Columns.{name_in, column_kind_at, kind_said, columns_from}
 
 -- one more is read
 pub columns_next : (n i : ℕ) (bytes : List ℕ) → i < n → columns_from (n - i) (35 + 18 * i) bytes

@@ -4,12 +4,12 @@ use Rattle.std.specs.Prelude.{is_some, ◌&&◌, ◌||◌}
 use Rattle.std.proofs.lemmas.Bool.{false≢true}
 use Rattle.ctr_model.specs.State.{same_name}
 use Rattle.ctr_snap.specs.Seeing.{SnapshotTaken}
-use Rattle.ctr_versions.proofs.Keys.{known, same_text}
-use Rattle.ctr_versions.proofs.Written.{same_itself}
-use Rattle.ctr_meta.specs.Seen.{xid_is_seen, xid_is_changed}
-use Rattle.ctr_meta.specs.Tables.{Tables}
-use Rattle.ctr_area.specs.Areas.{Area, Title}
-use Rattle.ctr_area.specs.Images.{is_live, is_named_so, is_standing}
+use Rattle.ctr_names.proofs.versions_Keys.{known, same_text}
+use Rattle.ctr_names.proofs.versions_Written.{same_itself}
+use Rattle.ctr_names.specs.meta_Seen.{xid_is_seen, xid_is_changed}
+use Rattle.ctr_names.specs.meta_Tables.{Tables}
+use Rattle.ctr_names.specs.area_Areas.{Area, Title}
+use Rattle.ctr_names.specs.area_Images.{is_live, is_named_so, is_standing}
 use Rattle.ctr_names.specs.Search.{is_changed_for}
 use Rattle.ctr_catalog.specs.declared.finding.MadeBy.{MadeBy}
 use Rattle.ctr_catalog.specs.Finding.{stands_seen, change_since, is_made_so, change_made, entry_seen, changed_in}

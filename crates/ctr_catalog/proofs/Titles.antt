@@ -2,12 +2,12 @@
 use Rattle.std.proofs.Common.{◌≡◌, ℕ, ◌+◌, ◌*◌, ◌/◌, ◌%◌, ◌<◌, true, cond, List, [], Ok, ◌∙◌, ap, arith}
 use Rattle.std.specs.Prelude.{◌==◌, nat_lt, Option}
 use Rattle.std.proofs.lemmas.Bool.{lt-ltb}
-use Rattle.ctr_page.specs.Reading.{piece}
-use Rattle.ctr_page.specs.Columns.{entry_in, entry_at}
-use Rattle.ctr_page.specs.Searching.{EndsSearch, IsFirst}
-use Rattle.ctr_page.proofs.Searches.{ends_first}
-use Rattle.ctr_area.specs.Areas.{Title}
-use Rattle.ctr_area.specs.Reading.{title_of, area_of}
+use Rattle.ctr_names.specs.page_Reading.{piece}
+use Rattle.ctr_names.specs.page_Columns.{entry_in, entry_at}
+use Rattle.ctr_names.specs.page_Searching.{EndsSearch, IsFirst}
+use Rattle.ctr_names.proofs.page_Searches.{ends_first}
+use Rattle.ctr_names.specs.area_Areas.{Title}
+use Rattle.ctr_alloc.specs.area_Reading.{title_of, area_of}
 use Rattle.ctr_catalog.specs.Entries.{is_unused, checks_entry, frees_in}
 
 module _ (pages : ℕ → List ℕ) (half from counted : ℕ) (two : half < 2) where

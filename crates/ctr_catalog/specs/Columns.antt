@@ -5,13 +5,13 @@ use Rattle.ctr_types.specs.declared.value.Column.{Column}
 use Rattle.ctr_types.specs.declared.value.Schema.{Schema}
 use Rattle.ctr_disk.specs.declared.fault.StoreFault.{StoreFault}
 use Rattle.ctr_rec.specs.declared.decoding.BadRecord.{BadRecord}
-use Rattle.ctr_page.specs.declared.table.TheConstants.{ENTRY_SIZE}
-use Rattle.ctr_page.specs.Columns.{entry_at}
-use Rattle.ctr_page.specs.Damage.{entry_check}
-use Rattle.ctr_page.specs.declared.walk.BadChain.{BadChain}
-use Rattle.ctr_page.specs.declared.walk.BadChain.TheVariants.{OnPage, TooLong}
-use Rattle.ctr_area.specs.Areas.{Title, Area}
-use Rattle.ctr_area.specs.Reading.{title_of}
+use Rattle.ctr_names.specs.page_table_TheConstants.{ENTRY_SIZE}
+use Rattle.ctr_names.specs.page_Columns.{entry_at}
+use Rattle.ctr_names.specs.page_Damage.{entry_check}
+use Rattle.ctr_names.specs.page_BadChain.{BadChain}
+use Rattle.ctr_names.specs.page_BadChain.TheVariants.{OnPage, TooLong}
+use Rattle.ctr_names.specs.area_Areas.{Title, Area}
+use Rattle.ctr_alloc.specs.area_Reading.{title_of}
 use Rattle.ctr_catalog.specs.declared.columns.SchemaRefusal.{SchemaRefusal}
 use Rattle.ctr_catalog.specs.declared.columns.SchemaRefusal.TheVariants as refusal
 

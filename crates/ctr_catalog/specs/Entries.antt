@@ -2,11 +2,11 @@
 use Rattle.std.specs.Prelude.{ℕ, ◌+◌, ◌*◌, ◌==◌, Bool, ◌&&◌, List, ⊤, Result}
 use Rattle.ctr_model.specs.State.{same_name}
 use Rattle.ctr_rec.specs.declared.decoding.BadRecord.{BadRecord}
-use Rattle.ctr_page.specs.declared.entry.CatalogEntry.{CatalogEntry}
-use Rattle.ctr_page.specs.declared.table.TheConstants.{ENTRY_SIZE}
-use Rattle.ctr_page.specs.Columns.{table_name_in}
-use Rattle.ctr_page.specs.Damage.{entry_check}
-use Rattle.ctr_area.specs.Areas.{Area}
+use Rattle.ctr_names.specs.page_CatalogEntry.{CatalogEntry}
+use Rattle.ctr_names.specs.page_table_TheConstants.{ENTRY_SIZE}
+use Rattle.ctr_names.specs.page_Columns.{table_name_in}
+use Rattle.ctr_names.specs.page_Damage.{entry_check}
+use Rattle.ctr_names.specs.area_Areas.{Area}
 
 -- a live entry of a name
 abbrev pub is_live_of : List ℕ → CatalogEntry → Bool

@@ -3,17 +3,17 @@ use Rattle.std.specs.Prelude.{◌≡◌, ℕ, ◌+◌, ◌*◌, ◌/◌, ◌%◌
 use Rattle.ctr_model.specs.State.{same_name}
 use Rattle.ctr_snap.specs.Seeing.{SnapshotTaken}
 use Rattle.ctr_rec.specs.declared.decoding.BadRecord.{BadRecord}
-use Rattle.ctr_meta.specs.Tables.{Tables}
-use Rattle.ctr_meta.specs.Seen.{xid_is_seen, xid_is_changed}
-use Rattle.ctr_page.specs.declared.table.TheConstants.{ENTRY_SIZE}
-use Rattle.ctr_page.specs.Columns.{entry_at}
-use Rattle.ctr_page.specs.Damage.{entry_check}
-use Rattle.ctr_page.specs.Searching.{PassesBy, EndsSearch}
-use Rattle.ctr_page.specs.declared.walk.BadChain.{BadChain}
-use Rattle.ctr_page.specs.declared.walk.BadChain.TheVariants.{OnPage, TooLong}
-use Rattle.ctr_area.specs.Areas.{Title, Area}
-use Rattle.ctr_area.specs.Reading.{title_of}
-use Rattle.ctr_area.specs.Images.{is_live}
+use Rattle.ctr_names.specs.meta_Tables.{Tables}
+use Rattle.ctr_names.specs.meta_Seen.{xid_is_seen, xid_is_changed}
+use Rattle.ctr_names.specs.page_table_TheConstants.{ENTRY_SIZE}
+use Rattle.ctr_names.specs.page_Columns.{entry_at}
+use Rattle.ctr_names.specs.page_Damage.{entry_check}
+use Rattle.ctr_names.specs.page_Searching.{PassesBy, EndsSearch}
+use Rattle.ctr_names.specs.page_BadChain.{BadChain}
+use Rattle.ctr_names.specs.page_BadChain.TheVariants.{OnPage, TooLong}
+use Rattle.ctr_names.specs.area_Areas.{Title, Area}
+use Rattle.ctr_alloc.specs.area_Reading.{title_of}
+use Rattle.ctr_names.specs.area_Images.{is_live}
 use Rattle.ctr_catalog.specs.declared.finding.MadeBy.{MadeBy}
 
 -- ---- an entry

@@ -1,11 +1,11 @@
 -- A search for a free entry through the two pages of the catalog.
 use Rattle.std.specs.Prelude.{◌≡◌, ◌⊎◌, ℕ, ◌+◌, ◌==◌, Bool, List, Option, None, Some, Result, Ok, Err}
 use Rattle.ctr_rec.specs.declared.decoding.BadRecord.{BadRecord}
-use Rattle.ctr_page.specs.Columns.{entry_at}
-use Rattle.ctr_page.specs.Searching.{EndsSearch}
-use Rattle.ctr_page.specs.declared.walk.BadChain.{BadChain}
-use Rattle.ctr_area.specs.Areas.{Area}
-use Rattle.ctr_walk.specs.Damage.{EndsOnPage}
+use Rattle.ctr_names.specs.page_Columns.{entry_at}
+use Rattle.ctr_names.specs.page_Searching.{EndsSearch}
+use Rattle.ctr_names.specs.page_BadChain.{BadChain}
+use Rattle.ctr_names.specs.area_Areas.{Area}
+use Rattle.ctr_alloc.specs.walk_Damage.{EndsOnPage}
 use Rattle.ctr_catalog.specs.declared.entries.TheConstants.{ENTRIES_ON_PAGE}
 use Rattle.ctr_catalog.specs.Entries.{is_unused, checks_entry}
 

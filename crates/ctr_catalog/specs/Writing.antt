@@ -6,15 +6,15 @@ use Rattle.ctr_disk.specs.declared.fault.StoreFault.{StoreFault}
 use Rattle.ctr_rec.specs.declared.record.Record.{Record}
 use Rattle.ctr_rec.specs.declared.record.SlogItem.{SlogItem}
 use Rattle.ctr_rec.specs.declared.record.SlogItem.TheVariants.{AllocOf, FreeOf, CreateOf, DropOf}
-use Rattle.ctr_page.specs.Searching.{IsFirst}
-use Rattle.ctr_page.specs.declared.walk.BadChain.{BadChain}
-use Rattle.ctr_area.specs.Areas.{Area}
-use Rattle.ctr_area.specs.Reading.{area_of}
-use Rattle.ctr_store.specs.Store.{View, LeavesPage}
-use Rattle.ctr_walk.specs.OneRecord.{LogsOne, WhyNotLogged}
-use Rattle.ctr_walk.specs.Damage.{EndsTold, ReadsPages}
-use Rattle.ctr_record_effects.specs.States.{pages_in}
-use Rattle.ctr_record_effects.specs.Changing.{free_record, uncreate_record, undrop_record}
+use Rattle.ctr_names.specs.page_Searching.{IsFirst}
+use Rattle.ctr_names.specs.page_BadChain.{BadChain}
+use Rattle.ctr_names.specs.area_Areas.{Area}
+use Rattle.ctr_alloc.specs.area_Reading.{area_of}
+use Rattle.ctr_alloc.specs.store_Store.{View, LeavesPage}
+use Rattle.ctr_alloc.specs.walk_OneRecord.{LogsOne, WhyNotLogged}
+use Rattle.ctr_alloc.specs.walk_Damage.{EndsTold, ReadsPages}
+use Rattle.ctr_alloc.specs.record_effects_States.{pages_in}
+use Rattle.ctr_alloc.specs.record_effects_Changing.{free_record, uncreate_record, undrop_record}
 use Rattle.ctr_catalog.specs.declared.writing.CatalogRefusal.{CatalogRefusal}
 use Rattle.ctr_catalog.specs.declared.writing.CatalogRefusal.TheVariants.{CatalogFull, Store}
 use Rattle.ctr_catalog.specs.Free.{EndsCatalog, is_free_entry}

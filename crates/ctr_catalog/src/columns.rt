@@ -1,24 +1,22 @@
 // The columns of the table of an entry.
 ghost use Rattle.std.specs.Prelude.{◌≡◌, ◌≤◌, ◌<◌, ◌+◌, ◌/◌, ◌%◌, false, IfOk, IfSome, length};
 ghost use Rattle.ctr_bytes.specs.Fields.{field};
-ghost use Rattle.ctr_value.specs.Columns.{ColumnsFit};
-ghost use Rattle.ctr_base.specs.Base.{WhereSound};
-ghost use Rattle.ctr_store.specs.Store.{LeavesPage};
-ghost use Rattle.ctr_page.specs.declared.table.TheConstants.{PAGE_SIZE, ENTRY_SIZE};
-ghost use Rattle.ctr_page.specs.Columns.{name_in, columns_in};
-ghost use Rattle.ctr_record_effects.specs.States.{pages_in, area_in};
-ghost use Rattle.ctr_walk.specs.Damage.{damage_told, searched, EndsOnPage, EndsTold, ReadsPages};
+ghost use Rattle.ctr_names.specs.value_Columns.{ColumnsFit};
+ghost use Rattle.ctr_alloc.specs.base_Base.{WhereSound};
+ghost use Rattle.ctr_alloc.specs.store_Store.{LeavesPage};
+ghost use Rattle.ctr_names.specs.page_table_TheConstants.{PAGE_SIZE, ENTRY_SIZE};
+ghost use Rattle.ctr_names.specs.page_Columns.{name_in, columns_in};
+ghost use Rattle.ctr_alloc.specs.record_effects_States.{pages_in, area_in};
+ghost use Rattle.ctr_alloc.specs.walk_Damage.{damage_told, searched, EndsOnPage, EndsTold, ReadsPages};
 ghost use Rattle.ctr_catalog.specs.Finding.{checks_at};
-ghost use Rattle.ctr_walk.specs.Columns.{AreNamed};
+ghost use Rattle.ctr_alloc.specs.walk_Columns.{AreNamed};
 ghost use Rattle.ctr_catalog.specs.Columns.{columns_there, GivesColumns, ColumnsSaid, EndsChecked, as_given};
 
-use ctr_base::Origin;
+use ctr_alloc::{Origin, SearchFault, Store, an_entry_has_columns, catalog_page, found_on, tell};
 use ctr_bytes::get_u8;
 use ctr_disk::{Disk, StoreFault};
-use ctr_page::{BadPage, CatalogEntry, EntryState, check_entry, read_entry};
-use ctr_store::Store;
+use ctr_names::{BadPage, CatalogEntry, EntryState, check_entry, read_entry};
 use ctr_types::{Column, List, Name, OutOfMemory, Schema, Text};
-use ctr_walk::{SearchFault, an_entry_has_columns, catalog_page, found_on, tell};
 use std::alloc::Global;
 
 /// Where an entry has its first column, behind the number of them.

@@ -1,14 +1,14 @@
 // The entries on a page of the catalog.
 ghost use Rattle.std.specs.Prelude.{◌≡◌, ◌<◌, ◌+◌, ℕ, List, Option, length, Ok};
-ghost use Rattle.ctr_page.specs.declared.table.TheConstants.{PAGE_SIZE, ENTRY_SIZE};
-ghost use Rattle.ctr_page.specs.Readable.{HasParts};
-ghost use Rattle.ctr_page.specs.Searching.{EndsSearch, IsFirst};
-ghost use Rattle.ctr_area.specs.Reading.{area_of};
+ghost use Rattle.ctr_names.specs.page_table_TheConstants.{PAGE_SIZE, ENTRY_SIZE};
+ghost use Rattle.ctr_names.specs.page_Readable.{HasParts};
+ghost use Rattle.ctr_names.specs.page_Searching.{EndsSearch, IsFirst};
+ghost use Rattle.ctr_alloc.specs.area_Reading.{area_of};
 ghost use Rattle.ctr_catalog.specs.declared.entries.TheConstants.{ENTRIES_ON_PAGE};
 ghost use Rattle.ctr_catalog.specs.Entries.{is_live_of, is_unused, checks_entry, frees_in};
-ghost use Rattle.ctr_page.specs.Columns.{entry_at as entry_of};
+ghost use Rattle.ctr_names.specs.page_Columns.{entry_at as entry_of};
 
-use ctr_page::{BadPage, CatalogEntry, EntryState, check_entry, read_entry};
+use ctr_names::{BadPage, CatalogEntry, EntryState, check_entry, read_entry};
 use ctr_types::Name;
 
 /// How many entries a page of the catalog has.

@@ -1,21 +1,18 @@
 // The table of a name that a snapshot sees, and whether one was changed since it was taken.
 ghost use Rattle.std.specs.Prelude.{◌≡◌, ◌<◌, ◌+◌, ◌/◌, ◌%◌, false, IfOk, IfSome, length};
-ghost use Rattle.ctr_base.specs.Base.{WhereSound};
-ghost use Rattle.ctr_page.specs.declared.table.TheConstants.{PAGE_SIZE};
-ghost use Rattle.ctr_store.specs.Store.{LeavesPage};
-ghost use Rattle.ctr_record_effects.specs.States.{pages_in, area_in};
-ghost use Rattle.ctr_walk.specs.Damage.{damage_told, searched, EndsOnPage, EndsTold, ReadsPages};
+ghost use Rattle.ctr_alloc.specs.base_Base.{WhereSound};
+ghost use Rattle.ctr_names.specs.page_table_TheConstants.{PAGE_SIZE};
+ghost use Rattle.ctr_alloc.specs.store_Store.{LeavesPage};
+ghost use Rattle.ctr_alloc.specs.record_effects_States.{pages_in, area_in};
+ghost use Rattle.ctr_alloc.specs.walk_Damage.{damage_told, searched, EndsOnPage, EndsTold, ReadsPages};
 ghost use Rattle.ctr_catalog.specs.Finding.{NamedSaid, stands_seen, change_since, is_made_so, change_made, checks_at, entry_seen, changed_in, EndsEntries, EndsEntry};
 
 use crate::entries::is_live_of;
-use ctr_base::Origin;
+use ctr_alloc::{Origin, SearchFault, Store, catalog_page, found_on, tell};
 use ctr_disk::{Disk, StoreFault};
-use ctr_meta::{Meta, is_changed, is_seen};
-use ctr_page::{BadPage, check_entry, read_entry};
+use ctr_names::{BadPage, Meta, check_entry, is_changed, is_seen, read_entry};
 use ctr_snap::Snapshot;
-use ctr_store::Store;
 use ctr_types::{Name, Xid};
-use ctr_walk::{SearchFault, catalog_page, found_on, tell};
 
 /// Who made a table, and who dropped it, 0 for nobody.
 #[derive(Clone, Copy, Debug, PartialEq, Eq)]

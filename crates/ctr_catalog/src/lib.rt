@@ -11,6 +11,7 @@ mod store;
 mod writing;
 
 pub use columns::{SchemaRefusal, schema};
+pub use ctr_alloc::{NextFree, alloc, next_free};
 pub use entries::{ENTRIES_ON_PAGE, find_free, found_in_area};
 pub use finding::{changed, find};
 pub use showing::{what_changed_answers_is_told, what_find_answers_is_found};

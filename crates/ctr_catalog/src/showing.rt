@@ -1,13 +1,13 @@
 // What searches through the catalog answer, as the laws of names have it.
 ghost use Rattle.std.specs.Prelude.{◌≡◌, ◌<◌, ℕ, List, Option, Some, None, Result, Ok, ⊤, is_some, true};
 ghost use Rattle.ctr_model.specs.declared.state.State.{State};
-ghost use Rattle.ctr_versions.specs.Chains.{changed_since};
-ghost use Rattle.ctr_versions.specs.Keys.{schema_writes};
-ghost use Rattle.ctr_versions.specs.Xids.{Xids};
+ghost use Rattle.ctr_names.specs.versions_Chains.{changed_since};
+ghost use Rattle.ctr_names.specs.versions_Keys.{schema_writes};
+ghost use Rattle.ctr_names.specs.versions_Xids.{Xids};
 ghost use Rattle.ctr_rec.specs.declared.decoding.BadRecord.{BadRecord};
-ghost use Rattle.ctr_meta.specs.Tables.{Tables};
-ghost use Rattle.ctr_area.specs.Areas.{Area};
-ghost use Rattle.ctr_area.specs.Sound.{IsSoundArea};
+ghost use Rattle.ctr_names.specs.meta_Tables.{Tables};
+ghost use Rattle.ctr_names.specs.area_Areas.{Area};
+ghost use Rattle.ctr_names.specs.area_Sound.{IsSoundArea};
 ghost use Rattle.ctr_names.specs.Search.{IsOfTables, ShowsNames, Looker, IsLooking, IsNumberOf, IsEntryFound, IsNoneFound, finds};
 ghost use Rattle.ctr_catalog.specs.Finding.{EndsEntries, entry_seen, changed_in};
 

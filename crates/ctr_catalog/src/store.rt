@@ -1,19 +1,17 @@
 // The free entries of the catalog of a store.
 ghost use Rattle.std.specs.Prelude.{◌≡◌, ◌<◌, ℕ, List, Ok, Option, false, IfOk, IfSome};
-ghost use Rattle.ctr_base.specs.Base.{WhereSound};
-ghost use Rattle.ctr_store.specs.Store.{LeavesPage};
-ghost use Rattle.ctr_page.specs.Searching.{IsFirst};
-ghost use Rattle.ctr_area.specs.Reading.{area_of};
-ghost use Rattle.ctr_record_effects.specs.States.{pages_in};
-ghost use Rattle.ctr_walk.specs.Damage.{damage_told, searched, EndsOnPage, EndsTold, ReadsPages};
+ghost use Rattle.ctr_alloc.specs.base_Base.{WhereSound};
+ghost use Rattle.ctr_alloc.specs.store_Store.{LeavesPage};
+ghost use Rattle.ctr_names.specs.page_Searching.{IsFirst};
+ghost use Rattle.ctr_alloc.specs.area_Reading.{area_of};
+ghost use Rattle.ctr_alloc.specs.record_effects_States.{pages_in};
+ghost use Rattle.ctr_alloc.specs.walk_Damage.{damage_told, searched, EndsOnPage, EndsTold, ReadsPages};
 ghost use Rattle.ctr_catalog.specs.Free.{EndsFreeEntry, EndsCatalog, is_free_entry};
 
 use crate::entries::{ENTRIES_ON_PAGE, find_free};
-use ctr_base::Origin;
+use ctr_alloc::{Origin, SearchFault, Store, found_on, tell};
 use ctr_disk::{Disk, StoreFault};
 use ctr_rec::PageNo;
-use ctr_store::Store;
-use ctr_walk::{SearchFault, found_on, tell};
 
 /// The lowest free entry on a page of the catalog.
 fn free_on<D: Disk, O: Origin>(

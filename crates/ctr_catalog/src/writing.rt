@@ -2,34 +2,30 @@
 ghost use Rattle.std.specs.Prelude.{◌≡◌, ◌≢◌, ◌<◌, ◌+◌, ◌/◌, ℕ, IfOk, OnOk};
 ghost use Rattle.ctr_bytes.specs.Fields.{spelled};
 ghost use Rattle.ctr_types.specs.Names.{IsName};
-ghost use Rattle.ctr_value.specs.Columns.{ColumnsFit};
-ghost use Rattle.ctr_base.specs.Base.{WhereSound};
-ghost use Rattle.ctr_page.specs.Columns.{new_entry_bytes};
-ghost use Rattle.ctr_area.specs.Changes.{new_title, empty_chains, ChangesEntry};
-ghost use Rattle.ctr_walk.specs.OneRecord.{HasRoomForOne, LogsOne};
-ghost use Rattle.ctr_record_effects.specs.States.{area_in, IsWholePage};
-ghost use Rattle.ctr_actions.specs.Sites.{site_of};
-ghost use Rattle.ctr_actions.specs.Actions.{Creates, Drops, Uncreates, Undrops, site_after, undoing};
-ghost use Rattle.ctr_record_effects.specs.Changing.{create_record, drop_record, uncreate_record, undrop_record};
+ghost use Rattle.ctr_names.specs.value_Columns.{ColumnsFit};
+ghost use Rattle.ctr_alloc.specs.base_Base.{WhereSound};
+ghost use Rattle.ctr_names.specs.page_Columns.{new_entry_bytes};
+ghost use Rattle.ctr_names.specs.area_Changes.{new_title, empty_chains, ChangesEntry};
+ghost use Rattle.ctr_alloc.specs.walk_OneRecord.{HasRoomForOne, LogsOne};
+ghost use Rattle.ctr_alloc.specs.record_effects_States.{area_in, IsWholePage};
+ghost use Rattle.ctr_alloc.specs.actions_Sites.{site_of};
+ghost use Rattle.ctr_alloc.specs.actions_Actions.{Creates, Drops, Uncreates, Undrops, site_after, undoing};
+ghost use Rattle.ctr_alloc.specs.record_effects_Changing.{create_record, drop_record, uncreate_record, undrop_record};
 ghost use Rattle.ctr_rec.specs.Members.{ItemFits};
-ghost use Rattle.ctr_walk.specs.Damage.{damage_told};
+ghost use Rattle.ctr_alloc.specs.walk_Damage.{damage_told};
 ghost use Rattle.ctr_catalog.specs.Writing.{EndsMaking, MakesTable, undo_record, undo_page, HasMade};
 
 use crate::store::find_free_entry;
-use ctr_actions::a_logged_record_is_its_action;
-use ctr_alloc::free;
-use ctr_base::Origin;
+use ctr_alloc::{
+    Origin, Store, a_drop_changes_its_title, a_logged_record_is_its_action,
+    a_new_table_has_its_entry, a_record_behind_a_page, an_uncreate_changes_its_title,
+    an_undrop_changes_its_title, catalog_page, free, log_on_page, over_entry, over_page,
+};
 use ctr_bytes::put_u64;
 use ctr_disk::{Disk, StoreFault};
-use ctr_page::make_entry;
+use ctr_names::make_entry;
 use ctr_rec::{Record, SlogItem};
-use ctr_record_effects::{
-    a_drop_changes_its_title, a_new_table_has_its_entry, an_uncreate_changes_its_title,
-    an_undrop_changes_its_title, over_entry, over_page,
-};
-use ctr_store::Store;
 use ctr_types::{Name, Schema, Xid};
-use ctr_walk::{a_record_behind_a_page, catalog_page, log_on_page};
 
 /// Why no table was made.
 #[derive(Clone, Copy, Debug, PartialEq, Eq)]

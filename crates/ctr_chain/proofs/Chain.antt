@@ -7,12 +7,12 @@ use Rattle.ctr_versions.proofs.Keys.{known}
 use Rattle.ctr_page.specs.declared.walk.BadChain.{BadChain}
 use Rattle.ctr_page.specs.declared.walk.BadChain.TheVariants.{TooLong}
 use Rattle.ctr_page.specs.declared.rows.Place.{Place}
-use Rattle.ctr_area.specs.Areas.{RowVersion, Slot, Older, Area}
-use Rattle.ctr_area.specs.Reading.{area_of}
-use Rattle.ctr_area.specs.Chains.{older_bound, places_along, if_any, chain_of}
+use Rattle.ctr_names.specs.area_Areas.{RowVersion, Slot, Older, Area}
+use Rattle.ctr_pvs.specs.area_Reading.{area_of}
+use Rattle.ctr_names.specs.area_Chains.{older_bound, places_along, if_any, chain_of}
 use Rattle.ctr_bytes.specs.Following.{◌>>=◌}
 use Rattle.ctr_pvs.specs.Table.{told_of}
-use Rattle.ctr_area.specs.Checked.{kinds_at}
+use Rattle.ctr_pvs.specs.area_Checked.{kinds_at}
 use Rattle.ctr_page.specs.Columns.{kinds_width}
 use Rattle.ctr_pvs.specs.Reading.{kept_at_check, row_check_at}
 use Rattle.ctr_pvs.proofs.Told.{chain_ok}

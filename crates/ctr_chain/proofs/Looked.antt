@@ -7,9 +7,9 @@ use Rattle.ctr_rec.proofs.Reading.{bind_ok}
 use Rattle.ctr_page.specs.declared.checks.Chain.TheVariants.{Versions}
 use Rattle.ctr_page.specs.declared.rows.Place.{Place}
 use Rattle.ctr_page.specs.Damage.{header_check}
-use Rattle.ctr_walk.specs.declared.table.TableOf.{TableOf}
+use Rattle.ctr_pvs.specs.walk_TableOf.{TableOf}
 use Rattle.ctr_pvs.specs.Table.{there_check}
-use Rattle.ctr_walk.specs.Tables.{kinds_said}
+use Rattle.ctr_pvs.specs.walk_Tables.{kinds_said}
 use Rattle.ctr_pvs.specs.Reading.{kept_on_check}
 use Rattle.ctr_pvs.proofs.Told.{within, by_there}
 use Rattle.ctr_chain.specs.declared.looking.KeptLook.{KeptLook}

@@ -3,7 +3,7 @@ use Rattle.std.proofs.Common.{◌≡◌, ℕ, ◌-◌, ◌*◌, ◌/◌, ◌<◌
 use Rattle.std.proofs.Math.Nat.{le-div_iff_mul-le, le-mul_of_pos_right, mul-le-mul_left, div-le_of_le-mul}
 use Rattle.ctr_page.specs.Places.{kept_size, room_for}
 use Rattle.ctr_page.specs.Walking.{most_in_chain}
-use Rattle.ctr_area.specs.Chains.{older_bound}
+use Rattle.ctr_names.specs.area_Chains.{older_bound}
 
 -- one fits on a page
 one_fits : (w : ℕ) → w ≤ 1792 → 0 < room_for (kept_size w)

@@ -5,7 +5,7 @@ use Rattle.std.specs.Option.{option_and_then, option_map_or, option_map, option_
 use Rattle.std.specs.Prelude.{is_some, unwrap_or}
 use Rattle.std.proofs.lemmas.Bool.{false≢true}
 use Rattle.ctr_versions.specs.Chains.{Numbers, above, newest}
-use Rattle.ctr_area.specs.Areas.{RowVersion}
+use Rattle.ctr_names.specs.area_Areas.{RowVersion}
 use Rattle.ctr_chain.specs.Seeing.{first_version, first_xid}
 
 -- it has one

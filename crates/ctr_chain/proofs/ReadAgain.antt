@@ -14,12 +14,12 @@ use Rattle.ctr_page.specs.declared.rows.Place.{Place}
 use Rattle.ctr_page.specs.Reading.{slot_at, older_at}
 use Rattle.ctr_page.specs.Columns.{kinds_width}
 use Rattle.ctr_page.specs.Damage.{header_check}
-use Rattle.ctr_area.specs.Areas.{Slot, Older, Area}
-use Rattle.ctr_area.specs.Reading.{area_of, columns_on}
-use Rattle.ctr_area.specs.Checked.{kinds_at}
-use Rattle.ctr_walk.specs.declared.table.TableOf.{TableOf}
+use Rattle.ctr_names.specs.area_Areas.{Slot, Older, Area}
+use Rattle.ctr_pvs.specs.area_Reading.{area_of, columns_on}
+use Rattle.ctr_pvs.specs.area_Checked.{kinds_at}
+use Rattle.ctr_pvs.specs.walk_TableOf.{TableOf}
 use Rattle.ctr_pvs.specs.Table.{there_check, told_of, TableSaid}
-use Rattle.ctr_walk.specs.Tables.{kinds_said}
+use Rattle.ctr_pvs.specs.walk_Tables.{kinds_said}
 use Rattle.ctr_pvs.specs.Reading.{kept_on_check, row_on_check, kept_at_check, row_check_at}
 use Rattle.ctr_pvs.proofs.Told.{IsPageOf, page_of_table, told_ok, chain_ok, within}
 use Rattle.ctr_chain.specs.declared.seeking.Found.{Found}

@@ -10,9 +10,9 @@ use Rattle.ctr_page.specs.declared.rows.Version.{Version}
 use Rattle.ctr_page.specs.declared.rows.RowSlot.{RowSlot}
 use Rattle.ctr_page.specs.declared.rows.VersionEntry.{VersionEntry}
 use Rattle.ctr_page.specs.Columns.{kinds_of}
-use Rattle.ctr_area.specs.Areas.{RowVersion, Slot, Older, Area, free_slot, free_older}
-use Rattle.ctr_area.specs.Reading.{row_said, version_said, slot_said, older_said}
-use Rattle.ctr_area.specs.Chains.{chain_of}
+use Rattle.ctr_names.specs.area_Areas.{RowVersion, Slot, Older, Area, free_slot, free_older}
+use Rattle.ctr_pvs.specs.area_Reading.{row_said, version_said, slot_said, older_said}
+use Rattle.ctr_names.specs.area_Chains.{chain_of}
 use Rattle.ctr_chain.specs.declared.seeking.Found.{Found}
 use Rattle.ctr_chain.specs.Rows.{row_of_version, row_if_any, head_row, previous_row, kept_row}
 use Rattle.ctr_chain.specs.Seeing.{first_version}

@@ -13,11 +13,11 @@ use Rattle.ctr_page.specs.declared.rows.Version.{Version}
 use Rattle.ctr_page.specs.declared.rows.RowSlot.{RowSlot}
 use Rattle.ctr_page.specs.Reading.{slot_at}
 use Rattle.ctr_page.specs.Columns.{kinds_width}
-use Rattle.ctr_area.specs.Areas.{Slot, free_slot}
-use Rattle.ctr_area.specs.Reading.{version_said, slot_said, header_on, columns_on, width_on, area_of}
-use Rattle.ctr_walk.specs.declared.table.TableOf.{TableOf}
+use Rattle.ctr_names.specs.area_Areas.{Slot, free_slot}
+use Rattle.ctr_pvs.specs.area_Reading.{version_said, slot_said, header_on, columns_on, width_on, area_of}
+use Rattle.ctr_pvs.specs.walk_TableOf.{TableOf}
 use Rattle.ctr_pvs.specs.Table.{told_of, TableSaid}
-use Rattle.ctr_walk.specs.Tables.{kinds_said}
+use Rattle.ctr_pvs.specs.walk_Tables.{kinds_said}
 use Rattle.ctr_pvs.specs.Reading.{row_on_check, row_check_at}
 use Rattle.ctr_pvs.proofs.Told.{IsPageOf, page_of_table, by_table}
 use Rattle.ctr_chain.specs.declared.looking.SlotLook.{SlotLook}

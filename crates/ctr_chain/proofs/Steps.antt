@@ -13,12 +13,12 @@ use Rattle.ctr_page.specs.declared.rows.VersionEntry.{VersionEntry}
 use Rattle.ctr_page.specs.Reading.{older_at}
 use Rattle.ctr_page.specs.Columns.{kinds_of, kinds_width, columns_in}
 use Rattle.ctr_page.proofs.Holding.{kinds_wide}
-use Rattle.ctr_area.specs.Areas.{Older, free_older}
-use Rattle.ctr_area.specs.Reading.{version_said, older_said, entry_bytes, header_on, columns_on, width_on, area_of}
-use Rattle.ctr_area.specs.Checked.{kinds_at}
-use Rattle.ctr_walk.specs.declared.table.TableOf.{TableOf}
+use Rattle.ctr_names.specs.area_Areas.{Older, free_older}
+use Rattle.ctr_pvs.specs.area_Reading.{version_said, older_said, entry_bytes, header_on, columns_on, width_on, area_of}
+use Rattle.ctr_pvs.specs.area_Checked.{kinds_at}
+use Rattle.ctr_pvs.specs.walk_TableOf.{TableOf}
 use Rattle.ctr_pvs.specs.Table.{told_of}
-use Rattle.ctr_walk.specs.Tables.{kinds_said}
+use Rattle.ctr_pvs.specs.walk_Tables.{kinds_said}
 use Rattle.ctr_pvs.specs.Reading.{versions_there, kept_on_check, kept_at_check}
 use Rattle.ctr_pvs.proofs.Told.{older_read}
 use Rattle.ctr_chain.specs.declared.looking.KeptLook.{KeptLook}

@@ -9,9 +9,9 @@ use Rattle.ctr_page.specs.declared.rows.RowSlot.{RowSlot}
 use Rattle.ctr_page.specs.declared.rows.VersionEntry.{VersionEntry}
 use Rattle.ctr_page.specs.Reading.{slot_at, older_at}
 use Rattle.ctr_page.specs.Columns.{kinds_width}
-use Rattle.ctr_area.specs.Areas.{nowhere}
-use Rattle.ctr_walk.specs.declared.table.TableOf.{TableOf}
-use Rattle.ctr_walk.specs.Tables.{kinds_said}
+use Rattle.ctr_names.specs.area_Areas.{nowhere}
+use Rattle.ctr_pvs.specs.walk_TableOf.{TableOf}
+use Rattle.ctr_pvs.specs.walk_Tables.{kinds_said}
 use Rattle.ctr_pvs.specs.Reading.{versions_there, kept_on_check, row_on_check}
 use Rattle.ctr_chain.specs.declared.looking.SlotLook.{SlotLook}
 use Rattle.ctr_chain.specs.declared.looking.KeptLook.{KeptLook}

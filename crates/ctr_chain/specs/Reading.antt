@@ -7,8 +7,8 @@ use Rattle.ctr_rec.specs.declared.decoding.BadRecord.{BadRecord}
 use Rattle.ctr_page.specs.declared.rows.Place.{Place}
 use Rattle.ctr_page.specs.Reading.{slot_at, older_at}
 use Rattle.ctr_page.specs.Columns.{kinds_width}
-use Rattle.ctr_walk.specs.declared.table.TableOf.{TableOf}
-use Rattle.ctr_walk.specs.Tables.{kinds_said}
+use Rattle.ctr_pvs.specs.walk_TableOf.{TableOf}
+use Rattle.ctr_pvs.specs.walk_Tables.{kinds_said}
 use Rattle.ctr_pvs.specs.Reading.{kept_on_check, row_on_check}
 use Rattle.ctr_chain.specs.declared.seeking.VersionAt.{VersionAt}
 use Rattle.ctr_chain.specs.declared.seeking.VersionAt.TheVariants.{Head, Previous, Kept}

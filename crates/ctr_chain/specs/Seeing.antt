@@ -1,10 +1,10 @@
 -- Which version of a row is sought, by its transaction, and the first of a chain.
 use Rattle.std.specs.Prelude.{ℕ, Bool, List, [], ◌∷◌, Option, None, Some, if◌then◌else◌}
 use Rattle.std.specs.Option.{option_map}
-use Rattle.ctr_meta.specs.Tables.{Tables}
-use Rattle.ctr_area.specs.Areas.{RowVersion}
-use Rattle.ctr_area.specs.Images.{is_committed_in}
-use Rattle.ctr_meta.specs.Seen.{xid_is_seen}
+use Rattle.ctr_names.specs.meta_Tables.{Tables}
+use Rattle.ctr_names.specs.area_Areas.{RowVersion}
+use Rattle.ctr_names.specs.area_Images.{is_committed_in}
+use Rattle.ctr_names.specs.meta_Seen.{xid_is_seen}
 use Rattle.ctr_chain.specs.declared.seeking.Sought.{Sought}
 use Rattle.ctr_chain.specs.declared.seeking.Sought.TheVariants.{Seen, Committed}
 

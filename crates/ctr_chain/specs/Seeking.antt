@@ -9,10 +9,10 @@ use Rattle.ctr_page.specs.declared.rows.Place.{Place}
 use Rattle.ctr_page.specs.Places.{kept_size, room_for}
 use Rattle.ctr_page.specs.Columns.{kinds_width}
 use Rattle.ctr_page.specs.Walking.{most_in_chain}
-use Rattle.ctr_area.specs.Areas.{RowVersion, Slot, Area}
-use Rattle.ctr_area.specs.Reading.{area_of}
-use Rattle.ctr_area.specs.Chains.{chain_of}
-use Rattle.ctr_area.specs.Checked.{kinds_at}
+use Rattle.ctr_names.specs.area_Areas.{RowVersion, Slot, Area}
+use Rattle.ctr_pvs.specs.area_Reading.{area_of}
+use Rattle.ctr_names.specs.area_Chains.{chain_of}
+use Rattle.ctr_pvs.specs.area_Checked.{kinds_at}
 use Rattle.ctr_pvs.specs.Table.{told_of, owner_of, TableSaid}
 use Rattle.ctr_pvs.specs.Reading.{kept_at_check, row_check_at}
 use Rattle.ctr_chain.specs.Seeing.{first_version, first_xid}

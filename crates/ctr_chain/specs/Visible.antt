@@ -6,8 +6,8 @@ use Rattle.ctr_disk.specs.declared.fault.StoreFault.{StoreFault}
 use Rattle.ctr_versions.specs.Chains.{value_seen}
 use Rattle.ctr_page.specs.declared.walk.BadChain.{BadChain}
 use Rattle.ctr_page.specs.declared.rows.Place.{Place}
-use Rattle.ctr_area.specs.Areas.{Area}
-use Rattle.ctr_area.specs.Chains.{chain_of}
+use Rattle.ctr_names.specs.area_Areas.{Area}
+use Rattle.ctr_names.specs.area_Chains.{chain_of}
 use Rattle.ctr_chain.specs.declared.seeking.Found.{Found}
 use Rattle.ctr_chain.specs.declared.view.ReadRefusal.{ReadRefusal}
 use Rattle.ctr_chain.specs.declared.view.ReadRefusal.TheVariants as refusal

@@ -1,21 +1,19 @@
 // The newest committed version of a row.
 ghost use Rattle.std.specs.Prelude.{◌≡◌, ◌<◌, false, IfOk};
-ghost use Rattle.ctr_base.specs.Base.{WhereSound};
-ghost use Rattle.ctr_store.specs.Store.{LeavesPage};
-ghost use Rattle.ctr_area.specs.Chains.{chain_of};
-ghost use Rattle.ctr_area.specs.Images.{is_committed_in};
-ghost use Rattle.ctr_walk.specs.Damage.{damage_told, searched, EndsTold, ReadsPages};
-ghost use Rattle.ctr_record_effects.specs.States.{pages_in, area_in};
+ghost use Rattle.ctr_pvs.specs.base_Base.{WhereSound};
+ghost use Rattle.ctr_pvs.specs.store_Store.{LeavesPage};
+ghost use Rattle.ctr_names.specs.area_Chains.{chain_of};
+ghost use Rattle.ctr_names.specs.area_Images.{is_committed_in};
+ghost use Rattle.ctr_pvs.specs.walk_Damage.{damage_told, searched, EndsTold, ReadsPages};
+ghost use Rattle.ctr_pvs.specs.record_effects_States.{pages_in, area_in};
 ghost use Rattle.ctr_chain.specs.Seeing.{first_xid};
 ghost use Rattle.ctr_chain.specs.Seeking.{sought_at, xid_found, xids_found};
 
 use crate::seeking::{Found, Sought, seek};
-use ctr_base::Origin;
 use ctr_disk::{Disk, StoreFault};
 use ctr_page::Place;
-use ctr_store::Store;
+use ctr_pvs::{Origin, SearchFault, Store, tell};
 use ctr_types::Xid;
-use ctr_walk::{SearchFault, tell};
 
 fn xid_found(found: Option<Found>) -> Option<Xid>
     ensures { result ≡ xid_found found }

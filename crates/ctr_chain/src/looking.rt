@@ -1,21 +1,20 @@
 // The transactions of the versions of a row, as they are read.
 ghost use Rattle.std.specs.Prelude.{◌≡◌, ◌≤◌, ◌<◌, false, IfOk, length};
-ghost use Rattle.ctr_base.specs.Base.{WhereSound};
-ghost use Rattle.ctr_base.specs.declared.growing.TheConstants.{MOST_PAGES};
-ghost use Rattle.ctr_store.specs.Parts.{MayCount};
-ghost use Rattle.ctr_store.specs.Store.{LeavesPage};
+ghost use Rattle.ctr_pvs.specs.base_Base.{WhereSound};
+ghost use Rattle.ctr_pvs.specs.base_growing_TheConstants.{MOST_PAGES};
+ghost use Rattle.ctr_pvs.specs.store_Parts.{MayCount};
+ghost use Rattle.ctr_pvs.specs.store_Store.{LeavesPage};
 ghost use Rattle.ctr_page.specs.declared.table.TheConstants.{PAGE_SIZE};
-ghost use Rattle.ctr_record_effects.specs.States.{pages_in};
-ghost use Rattle.ctr_walk.specs.Damage.{searched, EndsOnPage};
+ghost use Rattle.ctr_pvs.specs.record_effects_States.{pages_in};
+ghost use Rattle.ctr_pvs.specs.walk_Damage.{searched, EndsOnPage};
 ghost use Rattle.ctr_chain.specs.Looking.{xid_there, look_of_slot, look_of_entry, LooksAtRow, LooksAtEntry};
 
-use ctr_base::Origin;
 use ctr_disk::Disk;
 use ctr_page::{BadPage, Place, RowSlot, Use, Version, VersionEntry};
-use ctr_pvs::{check_versions_there, row_in, version_in};
-use ctr_store::Store;
+use ctr_pvs::{
+    Origin, SearchFault, Store, TableOf, check_versions_there, found_on, row_in, version_in,
+};
 use ctr_types::Xid;
-use ctr_walk::{SearchFault, TableOf, found_on};
 
 /// Whose the versions of a slot are, 0 for none, and where the next one is.
 #[derive(Clone, Copy, Debug, PartialEq, Eq)]

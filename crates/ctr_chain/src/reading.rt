@@ -1,22 +1,19 @@
 // The row of a version that was found, read from the page that it stands on.
 ghost use Rattle.std.specs.Prelude.{◌≡◌, ◌≤◌, ◌<◌, false, IfOk, length};
-ghost use Rattle.ctr_base.specs.declared.growing.TheConstants.{MOST_PAGES};
-ghost use Rattle.ctr_base.specs.Base.{WhereSound};
-ghost use Rattle.ctr_store.specs.Store.{LeavesPage};
+ghost use Rattle.ctr_pvs.specs.base_growing_TheConstants.{MOST_PAGES};
+ghost use Rattle.ctr_pvs.specs.base_Base.{WhereSound};
+ghost use Rattle.ctr_pvs.specs.store_Store.{LeavesPage};
 ghost use Rattle.ctr_page.specs.declared.table.TheConstants.{PAGE_SIZE};
-ghost use Rattle.ctr_record_effects.specs.States.{pages_in};
-ghost use Rattle.ctr_walk.specs.Damage.{searched, EndsOnPage};
+ghost use Rattle.ctr_pvs.specs.record_effects_States.{pages_in};
+ghost use Rattle.ctr_pvs.specs.walk_Damage.{searched, EndsOnPage};
 ghost use Rattle.ctr_chain.specs.Reading.{place_of_version, RowSaidAt};
 
 use crate::rows::{head_row, kept_row, previous_row};
 use crate::seeking::VersionAt;
-use ctr_base::Origin;
 use ctr_disk::Disk;
 use ctr_page::{BadPage, Place};
-use ctr_pvs::{row_in, version_in};
-use ctr_store::Store;
+use ctr_pvs::{Origin, SearchFault, Store, TableOf, found_on, row_in, version_in};
 use ctr_types::{OutOfMemory, Row};
-use ctr_walk::{SearchFault, TableOf, found_on};
 use std::alloc::Global;
 
 /// A row, or none for a tombstone, unless memory runs out.

@@ -4,9 +4,8 @@ ghost use Rattle.ctr_page.specs.Columns.{kinds_width as width_of_kinds};
 ghost use Rattle.ctr_page.specs.Making.{IsVersion, IsPrevious, IsSlot, IsEntry};
 ghost use Rattle.ctr_chain.specs.Rows.{row_of_version, row_if_any, head_row, previous_row, kept_row, GivesRow};
 
-use ctr_page::{RowSlot, Tombstone, Use, Version, VersionEntry};
+use ctr_page::{RowSlot, Tombstone, Use, Version, VersionEntry, row_by_kinds};
 use ctr_types::{Kind, OutOfMemory, Row};
-use ctr_value::row_by_kinds;
 use std::alloc::Global;
 
 /// The row of a version, or none for a tombstone.

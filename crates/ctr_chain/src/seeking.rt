@@ -1,30 +1,27 @@
 // The search through the versions of a row.
 ghost use Rattle.std.specs.Prelude.{◌≡◌, ◌≢◌, ◌≤◌, ◌<◌, ◌*◌, false, IfOk};
-ghost use Rattle.ctr_base.specs.Base.{WhereSound};
-ghost use Rattle.ctr_store.specs.Parts.{MayCount};
-ghost use Rattle.ctr_store.specs.Store.{LeavesPage};
-ghost use Rattle.ctr_record_effects.specs.States.{pages_in, area_in};
+ghost use Rattle.ctr_pvs.specs.base_Base.{WhereSound};
+ghost use Rattle.ctr_pvs.specs.store_Parts.{MayCount};
+ghost use Rattle.ctr_pvs.specs.store_Store.{LeavesPage};
+ghost use Rattle.ctr_pvs.specs.record_effects_States.{pages_in, area_in};
 ghost use Rattle.ctr_page.specs.Columns.{kinds_width as width_of_kinds};
 ghost use Rattle.ctr_page.specs.Places.{kept_size as size_of_kept, room_for as room_of};
 ghost use Rattle.ctr_page.specs.Walking.{most_in_chain};
-ghost use Rattle.ctr_area.specs.Checked.{kinds_at};
-ghost use Rattle.ctr_walk.specs.Tables.{kinds_said};
-ghost use Rattle.ctr_walk.specs.Damage.{searched};
+ghost use Rattle.ctr_pvs.specs.area_Checked.{kinds_at};
+ghost use Rattle.ctr_pvs.specs.walk_Tables.{kinds_said};
+ghost use Rattle.ctr_pvs.specs.walk_Damage.{searched};
 ghost use Rattle.ctr_chain.specs.Seeing.{sought_by};
 ghost use Rattle.ctr_chain.specs.Seeking.{sought_along, FoundIn, SearchSaid};
 ghost use Rattle.ctr_pvs.specs.Table.{TableFits};
 
 use crate::looking::{SlotLook, look_at_entry, look_at_row};
-use ctr_base::Origin;
 use ctr_disk::Disk;
-use ctr_meta::{Meta, is_seen};
+use ctr_names::{Meta, is_seen};
 use ctr_page::{BadChain, PageKind, Place, kept_size, kinds_width, room_for};
-use ctr_pvs::table_on;
+use ctr_pvs::{Origin, SearchFault, Store, TableOf, table_on};
 use ctr_rec::PageNo;
 use ctr_snap::Snapshot;
-use ctr_store::Store;
 use ctr_types::{Fate, Xid};
-use ctr_walk::{SearchFault, TableOf};
 
 /// Which version of a row is sought.
 #[derive(Drop)]

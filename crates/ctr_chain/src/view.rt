@@ -1,23 +1,21 @@
 // The row that a session sees at a place.
 ghost use Rattle.std.specs.Prelude.{◌≡◌, ◌<◌, false, IfOk};
-ghost use Rattle.ctr_base.specs.Base.{WhereSound};
-ghost use Rattle.ctr_store.specs.Store.{LeavesPage};
-ghost use Rattle.ctr_walk.specs.Damage.{damage_told, searched, EndsTold, ReadsPages};
-ghost use Rattle.ctr_record_effects.specs.States.{pages_in, area_in};
-ghost use Rattle.ctr_meta.specs.Seen.{xid_is_seen};
+ghost use Rattle.ctr_pvs.specs.base_Base.{WhereSound};
+ghost use Rattle.ctr_pvs.specs.store_Store.{LeavesPage};
+ghost use Rattle.ctr_pvs.specs.walk_Damage.{damage_told, searched, EndsTold, ReadsPages};
+ghost use Rattle.ctr_pvs.specs.record_effects_States.{pages_in, area_in};
+ghost use Rattle.ctr_names.specs.meta_Seen.{xid_is_seen};
 ghost use Rattle.ctr_chain.specs.Seeking.{sought_at};
 ghost use Rattle.ctr_chain.specs.Rows.{GivesRow};
 ghost use Rattle.ctr_chain.specs.Visible.{as_read, EndsReading, visible_row};
 
 use crate::reading::{Given, read_row};
 use crate::seeking::{Sought, seek};
-use ctr_base::Origin;
 use ctr_disk::{Disk, StoreFault};
 use ctr_page::Place;
+use ctr_pvs::{Origin, SearchFault, Store, tell};
 use ctr_snap::Snapshot;
-use ctr_store::Store;
 use ctr_types::{OutOfMemory, Row, Xid};
-use ctr_walk::{SearchFault, tell};
 use std::alloc::Global;
 
 /// Why a row isn't read.

@@ -14,7 +14,7 @@ use Rattle.ctr_record_laws.specs.Owed.{PassCommitted}
 use Rattle.ctr_store.specs.Store.{View}
 use Rattle.ctr_pvs.specs.Slots.{SlotSaidAt}
 use Rattle.ctr_chain.specs.Seeking.{entries_on, sought_in, sought_at, xids_found}
-use Rattle.ctr_undamaged.specs.Undamaged.{MeetsNoDamage}
+use Rattle.ctr_trim.specs.undamaged_Undamaged.{MeetsNoDamage}
 use Rattle.ctr_page_turns.specs.Turns.{Turns, Reads, LogsARecord}
 use Rattle.ctr_trim.specs.declared.slots.TrimWay.{TrimWay}
 use Rattle.ctr_trim.specs.Trimming.{trim_record, TrimsSlot}

@@ -25,9 +25,8 @@ use ctr_page::Place;
 use ctr_page_turns::a_turn_goes_on;
 use ctr_pvs::row;
 use ctr_store::Store;
-use ctr_trim::{TrimWay, trim_slot};
+use ctr_trim::{TrimWay, a_row_is_read_without_damage, trim_slot};
 use ctr_types::Xid;
-use ctr_undamaged::a_row_is_read_without_damage;
 
 /// What a step of the cleaner did.
 #[derive(Clone, Copy, Debug, PartialEq, Eq)]

@@ -18,15 +18,15 @@ use Rattle.ctr_area.specs.Sound.{IsAmong}
 use Rattle.ctr_actions.specs.Actions.{Commits, site_after}
 use Rattle.ctr_actions.specs.Facts.{Fact, HasTable}
 use Rattle.ctr_actions.specs.Sites.{Site, site_of}
-use Rattle.ctr_paged.specs.Paged.{Run}
+use Rattle.ctr_session_world.specs.paged_Paged.{Run}
 use Rattle.ctr_store.specs.Store.{View}
 use Rattle.ctr_locks.specs.Held.{LocksOfSession}
 use Rattle.ctr_locks.specs.Shows.{ShowsKeyLocks}
-use Rattle.ctr_kept.specs.Tables.{AreTables}
-use Rattle.ctr_kept.specs.Walk.{Mind}
-use Rattle.ctr_kept.specs.Turns.{Start, InTransaction, asked_scene, carrying, state_now, telling}
-use Rattle.ctr_stops.specs.World.{KeepsWorld}
-use Rattle.ctr_txn.specs.Held.{TxnHeld, TxnsHeld, IsReading, IsWriting, run_of, txn_of}
+use Rattle.ctr_session_world.specs.kept_Tables.{AreTables}
+use Rattle.ctr_session_world.specs.kept_Walk.{Mind}
+use Rattle.ctr_session_world.specs.kept_Turns.{Start, InTransaction, asked_scene, carrying, state_now, telling}
+use Rattle.ctr_session_world.specs.stops_World.{KeepsWorld}
+use Rattle.ctr_session_world.specs.txn_Held.{TxnHeld, TxnsHeld, IsReading, IsWriting, run_of, txn_of}
 use Rattle.ctr_session_world.specs.ctr_told.Turning.{facts_idle}
 use Rattle.ctr_session_world.specs.World.{SessionsHeld, AreInTables, names_in, AreInOrder}
 use Rattle.ctr_session_world.specs.Told.{IsNextOf, IsTold}

@@ -18,16 +18,16 @@ use Rattle.ctr_versions.proofs.Keys.{known}
 use Rattle.ctr_actions.specs.Facts.{Fact}
 use Rattle.ctr_actions.specs.Sites.{site_of}
 use Rattle.ctr_meta.specs.Tables.{Tables}
-use Rattle.ctr_paged.specs.Moving.{begun_now, held_as}
-use Rattle.ctr_paged.specs.Paged.{Run}
+use Rattle.ctr_session_world.specs.paged_Moving.{begun_now, held_as}
+use Rattle.ctr_session_world.specs.paged_Paged.{Run}
 use Rattle.ctr_redo.specs.States.{State as Stored}
 use Rattle.ctr_store.specs.Store.{View}
 use Rattle.ctr_locks.specs.Held.{LocksOfSession, held_by_session, session_locks}
 use Rattle.ctr_locks.specs.Shows.{ShowsKeyLocks, IsTheSame, BeginLeavesLocks}
-use Rattle.ctr_kept.specs.Turns.{Start, begun_mind, state_now, telling}
-use Rattle.ctr_stops.specs.World.{KeepsWorld}
-use Rattle.ctr_txn.specs.Held.{TxnHeld, TxnsHeld, IsOneOfEight, run_of, txn_of}
-use Rattle.ctr_txn.specs.Steps.{SetsTxn, txn_begun}
+use Rattle.ctr_session_world.specs.kept_Turns.{Start, begun_mind, state_now, telling}
+use Rattle.ctr_session_world.specs.stops_World.{KeepsWorld}
+use Rattle.ctr_session_world.specs.txn_Held.{TxnHeld, TxnsHeld, IsOneOfEight, run_of, txn_of}
+use Rattle.ctr_session_world.specs.txn_Steps.{SetsTxn, txn_begun}
 use Rattle.ctr_session_world.specs.World.{SessionsHeld, IsInTable, AreInTables, names_in, AreInOrder}
 use Rattle.ctr_session_world.specs.Told.{IsNextOf, IsTold}
 use Rattle.ctr_session_world.proofs.Standing.{RunFinds, none_of, told_state}

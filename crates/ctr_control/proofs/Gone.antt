@@ -18,11 +18,11 @@ use Rattle.ctr_record_effects.specs.States.{area_in}
 use Rattle.ctr_store.specs.Store.{View}
 use Rattle.ctr_locks.specs.Held.{LocksOfSession, FreesAll, OfSession, locks_key}
 use Rattle.ctr_locks.specs.Shows.{ShowsKeyLocks, ReleaseLeavesLocks}
-use Rattle.ctr_kept.specs.Walk.{Mind}
-use Rattle.ctr_kept.specs.Turns.{Start, gone_mind, state_now, telling}
-use Rattle.ctr_stops.specs.World.{KeepsWorld}
-use Rattle.ctr_paged.specs.Paged.{Run}
-use Rattle.ctr_txn.specs.Held.{TxnsHeld, run_of}
+use Rattle.ctr_session_world.specs.kept_Walk.{Mind}
+use Rattle.ctr_session_world.specs.kept_Turns.{Start, gone_mind, state_now, telling}
+use Rattle.ctr_session_world.specs.stops_World.{KeepsWorld}
+use Rattle.ctr_session_world.specs.paged_Paged.{Run}
+use Rattle.ctr_session_world.specs.txn_Held.{TxnsHeld, run_of}
 use Rattle.ctr_session_world.specs.World.{IsInTable, AreInTables, names_in, AreInOrder}
 use Rattle.ctr_session_world.specs.Told.{CountsBehind, IsNextOf, IsTold}
 use Rattle.ctr_session_world.proofs.Standing.{told_state}

@@ -13,12 +13,12 @@ use Rattle.ctr_versions.proofs.Keys.{some_is}
 use Rattle.ctr_versions.specs.Engine.{SessionHeld}
 use Rattle.ctr_area.specs.Sound.{xids_in}
 use Rattle.ctr_actions.specs.Sites.{site_of}
-use Rattle.ctr_paged.specs.Paged.{Run}
+use Rattle.ctr_session_world.specs.paged_Paged.{Run}
 use Rattle.ctr_store.specs.Store.{View}
-use Rattle.ctr_kept.proofs.Walking.{keeps_reached}
-use Rattle.ctr_kept.specs.Turns.{Start, state_now}
-use Rattle.ctr_txn.specs.declared.txn.Asked.{Asked}
-use Rattle.ctr_txn.specs.Held.{AreTxns, TxnHeld, IsOneOfEight, txn_of}
+use Rattle.ctr_session_world.proofs.kept_Walking.{keeps_reached}
+use Rattle.ctr_session_world.specs.kept_Turns.{Start, state_now}
+use Rattle.ctr_session_world.specs.txn_Asked.{Asked}
+use Rattle.ctr_session_world.specs.txn_Held.{AreTxns, TxnHeld, IsOneOfEight, txn_of}
 use Rattle.ctr_session_world.specs.World.{SessionsHeld}
 use Rattle.ctr_session_world.specs.Told.{IsNextOf}
 use Rattle.ctr_session_world.proofs.Standing.{RunFinds, seat_of}

@@ -7,9 +7,9 @@ use Rattle.ctr_types.specs.declared.tape.Reply.TheVariants as reply
 use Rattle.ctr_model.specs.declared.tape.Point.{Point}
 use Rattle.ctr_model.specs.Tape.{progress_of}
 use Rattle.ctr_store.specs.Store.{View}
-use Rattle.ctr_kept.specs.Walk.{Mind}
-use Rattle.ctr_kept.specs.Turns.{Start, point_now}
-use Rattle.ctr_txn.specs.declared.txn.Asked.{Asked}
+use Rattle.ctr_session_world.specs.kept_Walk.{Mind}
+use Rattle.ctr_session_world.specs.kept_Turns.{Start, point_now}
+use Rattle.ctr_session_world.specs.txn_Asked.{Asked}
 use Rattle.ctr_session_world.specs.World.{SessionsHeld, InWorld}
 
 -- a World of these transactions and locks

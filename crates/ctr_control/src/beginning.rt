@@ -4,8 +4,8 @@ ghost use Rattle.ctr_types.specs.declared.statement.Statement.TheVariants as st;
 ghost use Rattle.ctr_types.specs.declared.tape.Act.TheVariants as act;
 ghost use Rattle.ctr_base.specs.Base.{WhereSound};
 ghost use Rattle.ctr_locks.specs.Held.{LocksOfSession};
-ghost use Rattle.ctr_kept.specs.Turns.{Start};
-ghost use Rattle.ctr_txn.specs.Held.{IsOneOfEight};
+ghost use Rattle.ctr_session_world.specs.kept_Turns.{Start};
+ghost use Rattle.ctr_session_world.specs.txn_Held.{IsOneOfEight};
 ghost use Rattle.ctr_session_world.specs.Ready.{LeavesReady, StandOver, StaysUnasked};
 ghost use Rattle.ctr_session_world.specs.Told.{IsNextOf, IsTold};
 
@@ -13,8 +13,8 @@ use ctr_base::Origin;
 use ctr_disk::Disk;
 use ctr_locks::key_locks_show;
 use ctr_session_world::told::{a_begin_is_told, a_refusal_is_told};
+use ctr_session_world::{Txns, the_run_is_of_the_sessions};
 use ctr_store::Store;
-use ctr_txn::{Txns, the_run_is_of_the_sessions};
 use ctr_types::{Refusal, Reply};
 use std::alloc::Global;
 

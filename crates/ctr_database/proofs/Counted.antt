@@ -6,9 +6,9 @@ use Rattle.ctr_redo.specs.States.{State}
 use Rattle.ctr_record_effects.specs.Standing.{StandsForDatabase}
 use Rattle.ctr_base.specs.Base.{IsSoundImage}
 use Rattle.ctr_store.specs.Opening.{IsUndamaged}
-use Rattle.ctr_chain.specs.declared.view.ReadRefusal.{ReadRefusal}
-use Rattle.ctr_chain.specs.declared.view.ReadRefusal.TheVariants as refusal
-use Rattle.ctr_reading.specs.Reading.{IsDiskOrMemory}
+use Rattle.ctr_survey.specs.chain_ReadRefusal.{ReadRefusal}
+use Rattle.ctr_survey.specs.chain_ReadRefusal.TheVariants as refusal
+use Rattle.ctr_survey.specs.reading_Reading.{IsDiskOrMemory}
 use Rattle.ctr_run.specs.ctr_world.Ended.{PassesOpening, RefusesWorld}
 use Rattle.ctr_database.specs.Database.{refused_by}
 

@@ -9,8 +9,8 @@ use Rattle.ctr_log.specs.Opening.{fault_told}
 use Rattle.ctr_model.specs.declared.tape.Survey.{Survey}
 use Rattle.ctr_redo.specs.Images.{new_state}
 use Rattle.ctr_record_effects.specs.Standing.{StandsForDatabase}
-use Rattle.ctr_chain.specs.declared.view.ReadRefusal.{ReadRefusal}
-use Rattle.ctr_chain.specs.declared.view.ReadRefusal.TheVariants as refusal
+use Rattle.ctr_survey.specs.chain_ReadRefusal.{ReadRefusal}
+use Rattle.ctr_survey.specs.chain_ReadRefusal.TheVariants as refusal
 use Rattle.ctr_run.specs.ctr_world.Ended.{PassesOpening}
 
 -- The image stands for a database in which no page has anything and no transaction was, and it can

@@ -6,7 +6,7 @@ ghost use Rattle.ctr_disk.specs.Image.{Image};
 ghost use Rattle.ctr_home.specs.declared.block.Block.TheVariants.{Root as RootBlock};
 ghost use Rattle.ctr_home.specs.Blocks.{value_of};
 ghost use Rattle.ctr_redo.specs.Images.{new_state};
-ghost use Rattle.ctr_stops.specs.Fronts.{rows_of_state};
+ghost use Rattle.ctr_survey.specs.stops_Fronts.{rows_of_state};
 ghost use Rattle.ctr_store.specs.Creating.{AnswersCreate, IsEmptyStore, disk_made, making_told};
 ghost use Rattle.ctr_store.specs.declared.creating.CreateError.TheVariants.{Fault};
 ghost use Rattle.ctr_database.specs.Database.{IsNewlyMade, IsNoneOrNewlyMade};

@@ -5,12 +5,12 @@ use Rattle.ctr_disk.specs.declared.fault.StoreFault.{StoreFault}
 use Rattle.ctr_disk.specs.declared.fault.StoreFault.TheVariants.{Fault, Damaged}
 use Rattle.ctr_rec.specs.declared.record.Record.{Record}
 use Rattle.ctr_page.specs.declared.walk.BadChain.{BadChain}
-use Rattle.ctr_record_effects.specs.States.{pages_in}
-use Rattle.ctr_store.specs.Store.{View}
-use Rattle.ctr_walk.specs.OneRecord.{WhyNotLogged}
-use Rattle.ctr_catalog.specs.declared.writing.CatalogRefusal.TheVariants.{Store}
-use Rattle.ctr_catalog.specs.Free.{EndsCatalog}
-use Rattle.ctr_catalog.specs.Writing.{HasLowestFree, EndsMaking}
+use Rattle.ctr_page_turns.specs.record_effects_States.{pages_in}
+use Rattle.ctr_page_turns.specs.store_Store.{View}
+use Rattle.ctr_page_turns.specs.walk_OneRecord.{WhyNotLogged}
+use Rattle.ctr_undamaged.specs.catalog_CatalogRefusal.TheVariants.{Store}
+use Rattle.ctr_undamaged.specs.catalog_Free.{EndsCatalog}
+use Rattle.ctr_undamaged.specs.catalog_Writing.{HasLowestFree, EndsMaking}
 use Rattle.ctr_undamaged.specs.Undamaged.{MeetsNoDamage}
 
 -- an entry that the test finds is free

@@ -6,10 +6,10 @@ use Rattle.ctr_meta.specs.Tables.{is_in}
 use Rattle.ctr_area.specs.Images.{is_committed_in, is_live}
 use Rattle.ctr_area.specs.Sound.{stands_for}
 use Rattle.ctr_redo.specs.States.{State}
-use Rattle.ctr_record_effects.specs.States.{area_in}
-use Rattle.ctr_record_effects.specs.Standing.{IsDatabaseState}
-use Rattle.ctr_record_laws.specs.Owed.{IsNameFreeFor, OwedByDrop}
-use Rattle.ctr_actions.specs.Actions.{Creates}
+use Rattle.ctr_page_turns.specs.record_effects_States.{area_in}
+use Rattle.ctr_page_turns.specs.record_effects_Standing.{IsDatabaseState}
+use Rattle.ctr_page_turns.specs.record_laws_Owed.{IsNameFreeFor, OwedByDrop}
+use Rattle.ctr_page_turns.specs.actions_Actions.{Creates}
 use Rattle.ctr_page_turns.specs.Acts.{ActsBy}
 use Rattle.ctr_page_turns.specs.Rooms.{AddsItems}
 use Rattle.ctr_ddl.specs.declared.making.Made.{Made}

@@ -2,20 +2,21 @@
 ghost use Rattle.std.specs.Prelude.{◌≡◌, ◌<◌, OnOk, IfErr};
 ghost use Rattle.ctr_disk.specs.declared.fault.StoreFault.TheVariants.{Fault};
 ghost use Rattle.ctr_base.specs.Base.{WhereSound};
-ghost use Rattle.ctr_walk.specs.OneRecord.{HasRoomForOne};
-ghost use Rattle.ctr_actions.specs.Actions.{Drops};
+ghost use Rattle.ctr_page_turns.specs.walk_OneRecord.{HasRoomForOne};
+ghost use Rattle.ctr_page_turns.specs.actions_Actions.{Drops};
 ghost use Rattle.ctr_page_turns.specs.Turns.{LogsSome};
 ghost use Rattle.ctr_page_turns.specs.Acts.{ActsBy};
 ghost use Rattle.ctr_page_turns.specs.Rooms.{AddsItems};
 ghost use Rattle.ctr_ddl.specs.Tables.{MayDrop};
 
 use ctr_base::Origin;
-use ctr_catalog::drop_table;
 use ctr_disk::{Disk, StoreFault};
-use ctr_page_turns::{a_record_acts, a_record_is_refused_by_the_disk_alone};
-use ctr_passed::owed_records_are_laid_as_their_actions;
-use ctr_store::Store;
+use ctr_page_turns::{
+    Store, a_record_acts, a_record_is_refused_by_the_disk_alone,
+    owed_records_are_laid_as_their_actions,
+};
 use ctr_types::Xid;
+use ctr_undamaged::drop_table;
 
 /// The Write of a DROP TABLE: the transaction is the dropper of a live table, by one record, which isn't hardened yet. The entry is the one
 /// that its search of the catalog has found.

@@ -3,18 +3,18 @@ ghost use Rattle.std.specs.Prelude.{◌≡◌, IfOk, IfErr};
 ghost use Rattle.ctr_disk.specs.declared.fault.StoreFault.TheVariants.{Fault};
 ghost use Rattle.ctr_value.specs.Columns.{ColumnsFit};
 ghost use Rattle.ctr_base.specs.Base.{WhereSound};
-ghost use Rattle.ctr_walk.specs.OneRecord.{HasRoomForOne};
+ghost use Rattle.ctr_page_turns.specs.walk_OneRecord.{HasRoomForOne};
 ghost use Rattle.ctr_page_turns.specs.Turns.{Turns};
 ghost use Rattle.ctr_ddl.specs.Tables.{MayMake, MakesBy, IsEntryMade, MakingLeaves, next_made};
 
 use ctr_base::Origin;
-use ctr_catalog::{CatalogRefusal, create};
 use ctr_disk::{Disk, StoreFault};
-use ctr_page_turns::{a_record_acts, a_record_is_refused_by_the_disk_alone, a_turn_goes_on};
-use ctr_passed::{tables_lie_as_their_actions, tables_pass_their_checks};
-use ctr_store::Store;
+use ctr_page_turns::{
+    Store, a_record_acts, a_record_is_refused_by_the_disk_alone, a_turn_goes_on,
+    tables_lie_as_their_actions, tables_pass_their_checks,
+};
 use ctr_types::{Name, Schema, Xid};
-use ctr_undamaged::a_catalog_search_meets_no_damage;
+use ctr_undamaged::{CatalogRefusal, a_catalog_search_meets_no_damage, create};
 
 /// What a turn did that was to make a table.
 #[derive(Clone, Copy, Debug, PartialEq, Eq)]

@@ -10,8 +10,8 @@ use Rattle.ctr_types.specs.declared.tape.Reply.TheVariants as reply
 use Rattle.ctr_model.specs.Tape.{Allowed, IsNextAct, IsRelease, Legal}
 use Rattle.ctr_versions.proofs.Keys.{some_is}
 use Rattle.ctr_store.specs.Store.{View}
-use Rattle.ctr_kept.specs.Turns.{Start, entry_of, point_now, start_point, state_now}
-use Rattle.ctr_txn.specs.Held.{IsOneOfEight}
+use Rattle.ctr_control.specs.kept_Turns.{Start, entry_of, point_now, start_point, state_now}
+use Rattle.ctr_control.specs.txn_Held.{IsOneOfEight}
 use Rattle.ctr_writing.specs.ctr_session_world.World.{SessionsHeld}
 use Rattle.ctr_writing.specs.ctr_session_world.Told.{IsNextOf, IsTold}
 use Rattle.ctr_exec.proofs.Points.{last_comes}

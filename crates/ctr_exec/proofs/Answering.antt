@@ -15,10 +15,10 @@ use Rattle.ctr_model.specs.State.{transaction_of}
 use Rattle.ctr_model.specs.Tape.{IsNextAct, Legal}
 use Rattle.ctr_store.specs.Store.{View}
 use Rattle.ctr_actions.specs.Facts.{Fact}
-use Rattle.ctr_kept.specs.Turns.{Start, point_now, start_point, state_now}
-use Rattle.ctr_kept.specs.Walk.{Mind}
-use Rattle.ctr_txn.specs.Held.{TxnsHeld, IsOneOfEight}
-use Rattle.ctr_txn.specs.declared.txn.Asked.{Asked}
+use Rattle.ctr_control.specs.kept_Turns.{Start, point_now, start_point, state_now}
+use Rattle.ctr_control.specs.kept_Walk.{Mind}
+use Rattle.ctr_control.specs.txn_Held.{TxnsHeld, IsOneOfEight}
+use Rattle.ctr_control.specs.txn_Asked.{Asked}
 use Rattle.ctr_locks.specs.Held.{LocksOfSession}
 use Rattle.ctr_control.specs.Answers.{IsAnswered, answer_by}
 use Rattle.ctr_writing.specs.ctr_session_world.Told.{IsIdleBy}

@@ -5,11 +5,11 @@ use Rattle.std.proofs.lemmas.Bool.{false≢true}
 use Rattle.ctr_disk.specs.declared.disk.Disk.{Ghosts}
 use Rattle.ctr_actions.specs.Sites.{site_of}
 use Rattle.ctr_store.specs.Store.{View}
-use Rattle.ctr_kept.specs.Turns.{Start, state_now}
-use Rattle.ctr_kept.specs.Walk.{Mind, mind_at}
+use Rattle.ctr_control.specs.kept_Turns.{Start, state_now}
+use Rattle.ctr_control.specs.kept_Walk.{Mind, mind_at}
 use Rattle.ctr_locks.specs.Shows.{ShowsKeyLocks}
-use Rattle.ctr_stops.specs.World.{KeepsWorld}
-use Rattle.ctr_txn.specs.Held.{TxnHeld, held_from, run_of}
+use Rattle.ctr_control.specs.stops_World.{KeepsWorld}
+use Rattle.ctr_control.specs.txn_Held.{TxnHeld, held_from, run_of}
 use Rattle.ctr_writing.specs.ctr_session_world.World.{AreInTables, names_in}
 use Rattle.ctr_exec.specs.declared.runners.Stage.{Stage}
 use Rattle.ctr_exec.specs.declared.sessions.Sessions.{Sessions}

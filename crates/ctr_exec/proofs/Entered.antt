@@ -15,9 +15,9 @@ use Rattle.ctr_model.specs.Laws.{IsSoundState, SnapshotsStay}
 use Rattle.ctr_model.specs.Tape.{acts_of, advanced, progress_of, statement_of, passed, IsNextAct, IsRelease, Legal}
 use Rattle.ctr_versions.proofs.Keys.{known, some_is}
 use Rattle.ctr_store.specs.Store.{View}
-use Rattle.ctr_kept.specs.Turns.{Start, point_now, start_point, state_now}
-use Rattle.ctr_kept.specs.Walk.{Mind}
-use Rattle.ctr_txn.specs.Held.{IsOneOfEight}
+use Rattle.ctr_control.specs.kept_Turns.{Start, point_now, start_point, state_now}
+use Rattle.ctr_control.specs.kept_Walk.{Mind}
+use Rattle.ctr_control.specs.txn_Held.{IsOneOfEight}
 use Rattle.ctr_writing.specs.ctr_session_world.World.{InWorld}
 use Rattle.ctr_exec.specs.declared.runners.Runner.{Runner}
 use Rattle.ctr_exec.specs.declared.runners.Stage.{Stage}

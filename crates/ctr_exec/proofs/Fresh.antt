@@ -6,8 +6,8 @@ use Rattle.std.proofs.lemmas.Bool.{false≢true}
 use Rattle.std.proofs.lemmas.List.Sums.{sum_by-cons}
 use Rattle.ctr_types.specs.declared.statement.Line.{Line}
 use Rattle.ctr_meta.specs.Kept.{TablesKept}
-use Rattle.ctr_txn.specs.Held.{TxnHeld, TxnsHeld}
-use Rattle.ctr_txn.specs.Rooms.{item_kept, HasItemRoom}
+use Rattle.ctr_control.specs.txn_Held.{TxnHeld, TxnsHeld}
+use Rattle.ctr_control.specs.txn_Rooms.{item_kept, HasItemRoom}
 use Rattle.ctr_writing.specs.ctr_session_world.Ready.{is_asking}
 use Rattle.ctr_writing.specs.Tables.{HasFittingColumns}
 use Rattle.ctr_exec.specs.declared.runners.Stage.{Stage}

@@ -10,10 +10,10 @@ use Rattle.ctr_base.specs.Base.{IsSoundImage}
 use Rattle.ctr_model.specs.Laws.{IsSoundState, LegalStatesAreSound}
 use Rattle.ctr_store.specs.Store.{View, HasTurnRoom, KeepsRoom, LeavesPage, turns_for_room}
 use Rattle.ctr_meta.specs.Kept.{TablesKept}
-use Rattle.ctr_kept.specs.Turns.{Start, state_now}
-use Rattle.ctr_kept.specs.Walk.{Mind}
-use Rattle.ctr_txn.specs.Held.{TxnsHeld}
-use Rattle.ctr_txn.specs.Rooms.{HasItemRoom}
+use Rattle.ctr_control.specs.kept_Turns.{Start, state_now}
+use Rattle.ctr_control.specs.kept_Walk.{Mind}
+use Rattle.ctr_control.specs.txn_Held.{TxnsHeld}
+use Rattle.ctr_control.specs.txn_Rooms.{HasItemRoom}
 use Rattle.ctr_writing.specs.ctr_session_world.World.{InWorld, names_in}
 use Rattle.ctr_writing.specs.ctr_session_world.Ready.{StandOver}
 use Rattle.ctr_exec.specs.declared.runners.Runner.{Runner}

@@ -5,7 +5,7 @@ use Rattle.std.specs.List.{AllByRecursion}
 use Rattle.std.proofs.lemmas.Bool.{false≢true}
 use Rattle.std.proofs.lemmas.List.{get_or-set_same}
 use Rattle.ctr_locks.specs.Held.{LocksOfSession}
-use Rattle.ctr_txn.specs.Held.{TxnsHeld, IsOneOfEight}
+use Rattle.ctr_control.specs.txn_Held.{TxnsHeld, IsOneOfEight}
 use Rattle.ctr_exec.specs.declared.acting.Acted.{Acted}
 use Rattle.ctr_exec.specs.declared.runners.Runner.{Runner}
 use Rattle.ctr_exec.specs.declared.runners.Stage.TheVariants as stage

@@ -20,11 +20,11 @@ use Rattle.ctr_model.specs.declared.tape.Progress.{Progress}
 use Rattle.ctr_model.specs.Tape.{acts_of, advanced, at_start, final, passed, progress_of, statement_of}
 use Rattle.ctr_legal.proofs.Reached.{final_push}
 use Rattle.ctr_versions.proofs.Keys.{known}
-use Rattle.ctr_kept.specs.Turns.{release_entry}
+use Rattle.ctr_control.specs.kept_Turns.{release_entry}
 use Rattle.ctr_locks.specs.Held.{LocksOfSession}
-use Rattle.ctr_txn.specs.Held.{TxnsHeld, IsOneOfEight}
-use Rattle.ctr_txn.specs.declared.txn.Asked.{Asked}
-use Rattle.ctr_txn.specs.Steps.{AnswersNext}
+use Rattle.ctr_control.specs.txn_Held.{TxnsHeld, IsOneOfEight}
+use Rattle.ctr_control.specs.txn_Asked.{Asked}
+use Rattle.ctr_control.specs.txn_Steps.{AnswersNext}
 use Rattle.ctr_exec.specs.declared.acting.Acted.{Acted}
 use Rattle.ctr_exec.specs.declared.acting.Acted.TheVariants as acted
 use Rattle.ctr_exec.specs.declared.runners.Runner.{Runner}

@@ -11,9 +11,9 @@ use Rattle.ctr_types.specs.declared.statement.Statement.{Statement}
 use Rattle.ctr_types.specs.declared.statement.Statement.TheVariants as st
 use Rattle.ctr_model.specs.Tape.{statement_of}
 use Rattle.ctr_versions.proofs.Keys.{known, some_is}
-use Rattle.ctr_txn.specs.declared.txn.Asked.{Asked}
-use Rattle.ctr_txn.specs.Held.{TxnHeld, TxnsHeld, IsOneOfEight, txn_of}
-use Rattle.ctr_txn.specs.Steps.{AnswersNext}
+use Rattle.ctr_control.specs.txn_Asked.{Asked}
+use Rattle.ctr_control.specs.txn_Held.{TxnHeld, TxnsHeld, IsOneOfEight, txn_of}
+use Rattle.ctr_control.specs.txn_Steps.{AnswersNext}
 use Rattle.ctr_writing.specs.ctr_looks.ctr_extend.Ways.{IsCountedWay}
 use Rattle.ctr_writing.specs.ctr_looks.ctr_extend.declared.ways.OnWay.{OnWay}
 use Rattle.ctr_writing.specs.ctr_looks.ctr_extend.declared.ways.OnWay.TheVariants.{Wanted, Taken, Made}

@@ -12,8 +12,8 @@ use Rattle.ctr_model.specs.Tape.{progress_of, statement_of, passed, final}
 use Rattle.ctr_legal.proofs.Reached.{final_push}
 use Rattle.ctr_legal.proofs.Tapes.{final_append}
 use Rattle.ctr_actions.specs.Facts.{Fact}
-use Rattle.ctr_kept.specs.Turns.{Start, point_now, start_point, state_now}
-use Rattle.ctr_kept.specs.Walk.{Mind}
+use Rattle.ctr_control.specs.kept_Turns.{Start, point_now, start_point, state_now}
+use Rattle.ctr_control.specs.kept_Walk.{Mind}
 use Rattle.ctr_writing.specs.ctr_looks.Locking.{IsCountedTable}
 use Rattle.ctr_writing.specs.ctr_session_world.Told.{CountsOnTables, IsIdleBy, IsIdleIn}
 use Rattle.ctr_writing.specs.ctr_looks.ctr_write.declared.stages.Stage.{Stage as WriteStage}

@@ -16,9 +16,9 @@ use Rattle.ctr_model.specs.Laws.{IsSoundState, SnapshotsStay}
 use Rattle.ctr_model.specs.Tape.{acts_of, advanced, progress_of, statement_of}
 use Rattle.ctr_versions.proofs.Keys.{known, some_is}
 use Rattle.ctr_store.specs.Store.{View}
-use Rattle.ctr_kept.specs.Turns.{Start, point_now, state_now}
-use Rattle.ctr_kept.specs.Walk.{Mind}
-use Rattle.ctr_txn.specs.Held.{TxnsHeld, IsOneOfEight, number_drawn}
+use Rattle.ctr_control.specs.kept_Turns.{Start, point_now, state_now}
+use Rattle.ctr_control.specs.kept_Walk.{Mind}
+use Rattle.ctr_control.specs.txn_Held.{TxnsHeld, IsOneOfEight, number_drawn}
 use Rattle.ctr_control.specs.ctr_rollback.declared.rolling.Rolled.TheVariants.{Undone, Back}
 use Rattle.ctr_writing.specs.ctr_session_world.Told.{IsNextOf, IsTold, IsKeptOn}
 use Rattle.ctr_exec.specs.declared.acting.Acted.{Acted}

@@ -13,9 +13,9 @@ use Rattle.ctr_model.specs.declared.state.State.{State}
 use Rattle.ctr_model.specs.Refusals.{changes_schema, key_written}
 use Rattle.ctr_model.specs.Tape.{acts_of, goes_on}
 use Rattle.ctr_store.specs.Store.{View}
-use Rattle.ctr_kept.specs.Turns.{Start}
-use Rattle.ctr_kept.specs.Walk.{Mind}
-use Rattle.ctr_txn.specs.Held.{TxnsHeld, txn_of}
+use Rattle.ctr_control.specs.kept_Turns.{Start}
+use Rattle.ctr_control.specs.kept_Walk.{Mind}
+use Rattle.ctr_control.specs.txn_Held.{TxnsHeld, txn_of}
 use Rattle.ctr_control.specs.ctr_rollback.declared.rolling.Rolled.TheVariants.{Undone, Back}
 use Rattle.ctr_control.specs.ctr_rollback.Rolling.{RollsTo}
 use Rattle.ctr_writing.specs.ctr_looks.Granting.{HasItem}

@@ -10,7 +10,7 @@ use Rattle.ctr_types.specs.declared.tape.Entry.{Entry}
 use Rattle.ctr_types.specs.declared.tape.Reply.TheVariants as reply
 use Rattle.ctr_model.specs.declared.tape.Point.{Point}
 use Rattle.ctr_model.specs.Tape.{acts_of, at_start, final, passed, progress_of, statement_of}
-use Rattle.ctr_txn.specs.Held.{IsOneOfEight}
+use Rattle.ctr_control.specs.txn_Held.{IsOneOfEight}
 use Rattle.ctr_exec.specs.declared.sessions.Sessions.{Sessions}
 use Rattle.ctr_exec.specs.Runners.{made_at, runner_at}
 

@@ -18,11 +18,11 @@ use Rattle.ctr_model.specs.Reply.{without_name}
 use Rattle.ctr_model.specs.Tape.{progress_of, statement_of}
 use Rattle.ctr_base.specs.declared.growing.TheConstants.{MOST_PAGES}
 use Rattle.ctr_store.specs.Store.{View, HasTurnRoom, turns_for_room}
-use Rattle.ctr_kept.specs.Turns.{Start, point_now, release_entry, state_now}
-use Rattle.ctr_kept.specs.Walk.{Mind}
+use Rattle.ctr_control.specs.kept_Turns.{Start, point_now, release_entry, state_now}
+use Rattle.ctr_control.specs.kept_Walk.{Mind}
 use Rattle.ctr_meta.specs.Kept.{TablesKept}
-use Rattle.ctr_txn.specs.Held.{IsOneOfEight, IsWriting, number_drawn, txn_of}
-use Rattle.ctr_txn.specs.Rooms.{HasItemRoom}
+use Rattle.ctr_control.specs.txn_Held.{IsOneOfEight, IsWriting, number_drawn, txn_of}
+use Rattle.ctr_control.specs.txn_Rooms.{HasItemRoom}
 use Rattle.ctr_control.specs.ctr_rollback.declared.rolling.Rolled.{Rolled}
 use Rattle.ctr_control.specs.ctr_rollback.declared.rolling.Rolled.TheVariants.{Undone, Back}
 use Rattle.ctr_control.specs.ctr_rollback.Rolling.{RollsTo}

@@ -3,9 +3,9 @@ ghost use Rattle.std.specs.Prelude.{◌≡◌, ◌≤◌, ◌+◌, ℕ, List, tr
 ghost use Rattle.ctr_types.specs.declared.statement.Statement.TheVariants as st;
 ghost use Rattle.ctr_model.specs.Refusals.{changes_schema, key_written};
 ghost use Rattle.ctr_base.specs.Base.{WhereSound};
-ghost use Rattle.ctr_kept.specs.Turns.{Start, state_now};
+ghost use Rattle.ctr_control.specs.kept_Turns.{Start, state_now};
 ghost use Rattle.ctr_locks.specs.Held.{LocksOfSession};
-ghost use Rattle.ctr_txn.specs.Held.{IsWriting, number_drawn};
+ghost use Rattle.ctr_control.specs.txn_Held.{IsWriting, number_drawn};
 ghost use Rattle.ctr_writing.specs.ctr_session_world.Ready.{MayTurn, LeavesDisk};
 ghost use Rattle.ctr_writing.specs.ctr_session_world.Told.{IsIdleIn, IsNextOf};
 ghost use Rattle.ctr_writing.specs.ctr_looks.Selecting.{IsSelect};
@@ -16,12 +16,11 @@ ghost use Rattle.ctr_exec.specs.Acting.{number_told, MayAct, LeavesAct, LeavesSe
 
 use crate::runners::Stage;
 use ctr_base::Origin;
-use ctr_control::{a_writer_may_roll_back, ask, begin, roll_back};
+use ctr_control::{Txns, a_writer_may_roll_back, ask, begin, roll_back};
 use ctr_disk::{Disk, StoreFault};
 use ctr_locks::KeyLocks;
 use ctr_store::Store;
 use ctr_tally::Steps;
-use ctr_txn::Txns;
 use ctr_types::{Act, List, Name, Reply, Statement};
 use ctr_writing::looks::wishes::Prepared;
 use ctr_writing::looks::{Locked, TableLocked, TableWrite, lock_row, lock_table, read, writes};

@@ -2,9 +2,9 @@
 ghost use Rattle.std.specs.Prelude.{◌≡◌};
 ghost use Rattle.ctr_actions.specs.Sites.{site_of};
 ghost use Rattle.ctr_store.specs.Store.{View};
-ghost use Rattle.ctr_kept.specs.Turns.{Start};
-ghost use Rattle.ctr_kept.specs.Walk.{mind_at};
-ghost use Rattle.ctr_stops.specs.World.{KeepsWorld};
+ghost use Rattle.ctr_control.specs.kept_Turns.{Start};
+ghost use Rattle.ctr_control.specs.kept_Walk.{mind_at};
+ghost use Rattle.ctr_control.specs.stops_World.{KeepsWorld};
 ghost use Rattle.ctr_exec.specs.declared.sessions.Sessions.{Sessions as SessionsAt};
 ghost use Rattle.ctr_exec.specs.Sessions.{AreFresh, ShowsSessions};
 

@@ -11,17 +11,17 @@ use Rattle.ctr_page.specs.Damage.{chain_entry}
 use Rattle.ctr_area.specs.Areas.{Title}
 use Rattle.ctr_area.specs.Sound.{IsAmong}
 use Rattle.ctr_area.proofs.Buckets.{each_of}
-use Rattle.ctr_record_laws.proofs.Owning.{all_of}
-use Rattle.ctr_redo.specs.States.{State}
-use Rattle.ctr_record_effects.specs.States.{area_in}
-use Rattle.ctr_actions.specs.Sites.{Site, site_of}
-use Rattle.ctr_actions.specs.Actions.{Action, Allocates, Formats, site_after}
-use Rattle.ctr_actions.specs.Facts.{Fact, HasTable, HasBlank, HoldsFact}
-use Rattle.ctr_passed.specs.Logged.{IsBlankPage}
-use Rattle.ctr_paged.specs.Shown.{Scene}
-use Rattle.ctr_paged.specs.Moving.{MovesTo}
-use Rattle.ctr_kept.specs.Carried.{Covers, IsUnderLock, IsOfEntry}
-use Rattle.ctr_kept.specs.Turns.{Carries}
+use Rattle.ctr_undamaged.proofs.record_laws_Owning.{all_of}
+use Rattle.ctr_base.specs.redo_States.{State}
+use Rattle.ctr_page_turns.specs.record_effects_States.{area_in}
+use Rattle.ctr_page_turns.specs.actions_Sites.{Site, site_of}
+use Rattle.ctr_page_turns.specs.actions_Actions.{Action, Allocates, Formats, site_after}
+use Rattle.ctr_stops.specs.actions_Facts.{Fact, HasTable, HasBlank, HoldsFact}
+use Rattle.ctr_page_turns.specs.passed_Logged.{IsBlankPage}
+use Rattle.ctr_stops.specs.paged_Shown.{Scene}
+use Rattle.ctr_stops.specs.paged_Moving.{MovesTo}
+use Rattle.ctr_stops.specs.kept_Carried.{Covers, IsUnderLock, IsOfEntry}
+use Rattle.ctr_stops.specs.kept_Turns.{Carries}
 use Rattle.ctr_page_turns.specs.Acts.{ActsBy}
 use Rattle.ctr_extend.specs.declared.ways.OnWay.{OnWay}
 use Rattle.ctr_extend.specs.declared.ways.OnWay.TheVariants.{Wanted, Taken, Made}

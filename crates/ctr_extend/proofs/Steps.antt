@@ -8,17 +8,17 @@ use Rattle.ctr_page.specs.declared.walk.BadChain.{BadChain}
 use Rattle.ctr_page.specs.declared.walk.BadChain.TheVariants.{OnPage, TooLong}
 use Rattle.ctr_page.specs.declared.checks.Chain.TheVariants.{Rows, Versions}
 use Rattle.ctr_page.specs.Damage.{chain_entry}
-use Rattle.ctr_record_effects.specs.States.{pages_in}
-use Rattle.ctr_record_effects.specs.Standing.{IsDatabaseState}
-use Rattle.ctr_walk.specs.Damage.{EndsTold}
-use Rattle.ctr_walk.specs.Tables.{IsChain, EndsFirst}
+use Rattle.ctr_page_turns.specs.record_effects_States.{pages_in}
+use Rattle.ctr_page_turns.specs.record_effects_Standing.{IsDatabaseState}
+use Rattle.ctr_page_turns.specs.walk_Damage.{EndsTold}
+use Rattle.ctr_page_turns.specs.walk_Tables.{IsChain, EndsFirst}
 use Rattle.ctr_page.specs.declared.checks.Chain.{Chain}
-use Rattle.ctr_redo.specs.States.{State, grown}
-use Rattle.ctr_store.specs.Store.{View, KeepsRoom}
-use Rattle.ctr_alloc.specs.Free.{IsNextFree}
-use Rattle.ctr_alloc.specs.declared.search.NextFree.{NextFree}
-use Rattle.ctr_actions.specs.Sites.{Site}
-use Rattle.ctr_actions.specs.Facts.{Fact, HoldsFact}
+use Rattle.ctr_base.specs.redo_States.{State, grown}
+use Rattle.ctr_stops.specs.store_Store.{View, KeepsRoom}
+use Rattle.ctr_undamaged.specs.alloc_Free.{IsNextFree}
+use Rattle.ctr_undamaged.specs.alloc_NextFree.{NextFree}
+use Rattle.ctr_page_turns.specs.actions_Sites.{Site}
+use Rattle.ctr_stops.specs.actions_Facts.{Fact, HoldsFact}
 use Rattle.ctr_extend.specs.declared.ways.OnWay.TheVariants.{Taken, Made}
 use Rattle.ctr_extend.specs.declared.ways.Extended.{Extended}
 use Rattle.ctr_extend.specs.declared.ways.Extended.TheVariants.{On, Linked, Grown, Full}

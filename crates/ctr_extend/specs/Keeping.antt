@@ -4,11 +4,11 @@ use Rattle.ctr_disk.specs.declared.disk.Disk.{Ghosts}
 use Rattle.ctr_page.specs.declared.checks.Chain.{Chain}
 use Rattle.ctr_page.specs.Damage.{chain_entry}
 use Rattle.ctr_area.specs.Areas.{Title}
-use Rattle.ctr_actions.specs.Facts.{Fact, IsOpen, HasTable}
-use Rattle.ctr_store.specs.Store.{View}
-use Rattle.ctr_kept.specs.Tables.{AreTables}
-use Rattle.ctr_kept.specs.Walk.{Mind}
-use Rattle.ctr_kept.specs.Turns.{Start, InTransaction}
+use Rattle.ctr_stops.specs.actions_Facts.{Fact, IsOpen, HasTable}
+use Rattle.ctr_stops.specs.store_Store.{View}
+use Rattle.ctr_stops.specs.kept_Tables.{AreTables}
+use Rattle.ctr_stops.specs.kept_Walk.{Mind}
+use Rattle.ctr_stops.specs.kept_Turns.{Start, InTransaction}
 use Rattle.ctr_stops.specs.World.{KeepsWorld}
 use Rattle.ctr_extend.specs.declared.ways.OnWay.{OnWay}
 use Rattle.ctr_extend.specs.declared.ways.OnWay.TheVariants.{Wanted}

@@ -5,13 +5,13 @@ use Rattle.ctr_meta.specs.Kept.{TablesKept}
 use Rattle.ctr_meta.specs.Tables.{is_in}
 use Rattle.ctr_page.specs.declared.checks.Chain.{Chain}
 use Rattle.ctr_page.specs.Damage.{chain_entry}
-use Rattle.ctr_redo.specs.States.{State, counting, grown}
-use Rattle.ctr_record_effects.specs.States.{area_in}
-use Rattle.ctr_record_effects.specs.Standing.{IsDatabaseState}
-use Rattle.ctr_store.specs.Store.{View}
-use Rattle.ctr_alloc.specs.Free.{AreTakenBelow}
-use Rattle.ctr_walk.specs.Tables.{first_of_chain}
-use Rattle.ctr_actions.specs.Actions.{Allocates, Formats}
+use Rattle.ctr_base.specs.redo_States.{State, counting, grown}
+use Rattle.ctr_page_turns.specs.record_effects_States.{area_in}
+use Rattle.ctr_page_turns.specs.record_effects_Standing.{IsDatabaseState}
+use Rattle.ctr_stops.specs.store_Store.{View}
+use Rattle.ctr_undamaged.specs.alloc_Free.{AreTakenBelow}
+use Rattle.ctr_page_turns.specs.walk_Tables.{first_of_chain}
+use Rattle.ctr_page_turns.specs.actions_Actions.{Allocates, Formats}
 use Rattle.ctr_page_turns.specs.Acts.{ActsBy}
 use Rattle.ctr_page_turns.specs.Rooms.{AddsItems}
 use Rattle.ctr_extend.specs.declared.ways.OnWay.{OnWay}

@@ -5,12 +5,12 @@ use Rattle.std.specs.List.{AllByRecursion}
 use Rattle.ctr_page.specs.declared.checks.Chain.{Chain}
 use Rattle.ctr_page.specs.declared.checks.Chain.TheVariants.{Rows, Versions}
 use Rattle.ctr_page.specs.declared.header.Header.{Header}
-use Rattle.ctr_redo.specs.States.{State}
-use Rattle.ctr_record_laws.specs.Owed.{rows_header, versions_header}
-use Rattle.ctr_actions.specs.Sites.{site_of}
-use Rattle.ctr_actions.specs.Actions.{Action, Links, LinksOlder}
-use Rattle.ctr_actions.specs.Facts.{Fact, HasPage, HasNoPageBut, HasBlank, HoldsFact}
-use Rattle.ctr_passed.specs.Logged.{IsBlankPage}
+use Rattle.ctr_base.specs.redo_States.{State}
+use Rattle.ctr_page_turns.specs.record_laws_Owed.{rows_header, versions_header}
+use Rattle.ctr_page_turns.specs.actions_Sites.{site_of}
+use Rattle.ctr_page_turns.specs.actions_Actions.{Action, Links, LinksOlder}
+use Rattle.ctr_stops.specs.actions_Facts.{Fact, HasPage, HasNoPageBut, HasBlank, HoldsFact}
+use Rattle.ctr_page_turns.specs.passed_Logged.{IsBlankPage}
 use Rattle.ctr_extend.specs.declared.ways.OnWay.{OnWay}
 use Rattle.ctr_extend.specs.declared.ways.OnWay.TheVariants.{Wanted, Taken, Made}
 

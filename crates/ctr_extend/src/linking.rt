@@ -3,29 +3,26 @@ ghost use Rattle.std.specs.Prelude.{IfErr, ◌≡◌, ◌<◌, ◌≤◌, ℕ, I
 ghost use Rattle.ctr_disk.specs.declared.fault.StoreFault.TheVariants.{Fault};
 ghost use Rattle.ctr_base.specs.Base.{WhereSound};
 ghost use Rattle.ctr_page.specs.declared.checks.Chain.TheVariants.{Rows, Versions};
-ghost use Rattle.ctr_record_effects.specs.States.{area_in};
-ghost use Rattle.ctr_walk.specs.OneRecord.{HasRoomForOne};
-ghost use Rattle.ctr_walk.specs.Tables.{IsChain, first_of_chain};
+ghost use Rattle.ctr_page_turns.specs.record_effects_States.{area_in};
+ghost use Rattle.ctr_page_turns.specs.walk_OneRecord.{HasRoomForOne};
+ghost use Rattle.ctr_page_turns.specs.walk_Tables.{IsChain, first_of_chain};
 ghost use Rattle.ctr_page_turns.specs.Turns.{Turns};
 ghost use Rattle.ctr_extend.specs.declared.ways.OnWay.TheVariants.{Made};
 ghost use Rattle.ctr_extend.specs.declared.ways.Extended.TheVariants.{Linked as IsLinked};
 ghost use Rattle.ctr_extend.specs.Steps.{MayExtend, PutsInFront, LeavesRoom, MovesBy};
 
 use crate::ways::Extended;
-use ctr_actions::{an_action_gives_its_fact, what_is_held_pays};
 use ctr_base::Origin;
 use ctr_disk::{Disk, StoreFault};
-use ctr_heap::link;
 use ctr_page::Chain;
 use ctr_page_turns::{
-    a_record_acts, a_record_is_refused_by_the_disk_alone, a_turn_goes_on, an_item_goes,
+    a_record_acts, a_record_is_refused_by_the_disk_alone, a_turn_goes_on, an_action_gives_its_fact,
+    an_item_goes, owed_records_are_laid_as_their_actions, pages_are_in_bounds, what_is_held_pays,
 };
-use ctr_passed::owed_records_are_laid_as_their_actions;
 use ctr_rec::PageNo;
-use ctr_record_laws::pages_are_in_bounds;
-use ctr_store::Store;
+use ctr_stops::Store;
 use ctr_types::Xid;
-use ctr_undamaged::a_table_can_be_linked_to;
+use ctr_undamaged::{a_table_can_be_linked_to, link};
 
 // In front of a bucket.
 fn link_rows<D: Disk, O: Origin>(

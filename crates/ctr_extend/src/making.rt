@@ -3,10 +3,10 @@ ghost use Rattle.std.specs.Prelude.{IfErr, ◌≡◌, ◌<◌, ◌≤◌, IfOk};
 ghost use Rattle.ctr_disk.specs.declared.fault.StoreFault.TheVariants.{Fault};
 ghost use Rattle.ctr_base.specs.Base.{WhereSound};
 ghost use Rattle.ctr_page.specs.Making.{IsHeader};
-ghost use Rattle.ctr_record_effects.specs.Standing.{IsDatabaseState};
-ghost use Rattle.ctr_walk.specs.OneRecord.{HasRoomForOne};
-ghost use Rattle.ctr_walk.specs.Tables.{IsChain, first_of_chain};
-ghost use Rattle.ctr_record_effects.specs.States.{area_in};
+ghost use Rattle.ctr_page_turns.specs.record_effects_Standing.{IsDatabaseState};
+ghost use Rattle.ctr_page_turns.specs.walk_OneRecord.{HasRoomForOne};
+ghost use Rattle.ctr_page_turns.specs.walk_Tables.{IsChain, first_of_chain};
+ghost use Rattle.ctr_page_turns.specs.record_effects_States.{area_in};
 ghost use Rattle.ctr_page_turns.specs.Turns.{Turns};
 ghost use Rattle.ctr_extend.specs.declared.ways.OnWay.TheVariants.{Taken};
 ghost use Rattle.ctr_extend.specs.Ways.{chain_header, IsOnWay};
@@ -15,16 +15,17 @@ ghost use Rattle.ctr_extend.specs.declared.ways.Extended.TheVariants.{On as IsOn
 ghost use Rattle.ctr_extend.specs.declared.ways.OnWay.TheVariants.{Made as IsMade};
 
 use crate::ways::{Extended, OnWay};
-use ctr_actions::{an_action_gives_its_fact, what_is_done_stays};
 use ctr_base::Origin;
 use ctr_disk::{Disk, StoreFault};
-use ctr_heap::format;
 use ctr_page::{Chain, Header, PageKind};
-use ctr_page_turns::{a_record_acts, a_record_is_refused_by_the_disk_alone, a_turn_goes_on};
-use ctr_passed::{a_formatted_page_is_blank, pages_lie_as_their_actions};
+use ctr_page_turns::{
+    a_formatted_page_is_blank, a_record_acts, a_record_is_refused_by_the_disk_alone,
+    a_turn_goes_on, an_action_gives_its_fact, pages_lie_as_their_actions, what_is_done_stays,
+};
 use ctr_rec::PageNo;
-use ctr_store::Store;
+use ctr_stops::Store;
 use ctr_types::Xid;
+use ctr_undamaged::format;
 
 // The header of a page of a chain.
 fn header_of(chain: Chain, next: PageNo) -> Header

@@ -4,28 +4,27 @@ ghost use Rattle.ctr_base.specs.declared.growing.TheConstants.{MOST_PAGES};
 ghost use Rattle.ctr_disk.specs.declared.fault.StoreFault.TheVariants.{Fault};
 ghost use Rattle.ctr_base.specs.Base.{WhereSound};
 ghost use Rattle.ctr_page.specs.declared.checks.Chain.{Chain as ChainOf};
-ghost use Rattle.ctr_record_effects.specs.States.{area_in};
-ghost use Rattle.ctr_alloc.specs.Free.{IsNextFree};
-ghost use Rattle.ctr_alloc.specs.declared.search.NextFree.{NextFree as IsNext};
-ghost use Rattle.ctr_alloc.specs.declared.search.NextFree.TheVariants.{Page as IsPage, Grow as IsGrow};
-ghost use Rattle.ctr_store.specs.Store.{View, LeavesPage};
-ghost use Rattle.ctr_walk.specs.OneRecord.{HasRoomForOne};
+ghost use Rattle.ctr_page_turns.specs.record_effects_States.{area_in};
+ghost use Rattle.ctr_undamaged.specs.alloc_Free.{IsNextFree};
+ghost use Rattle.ctr_undamaged.specs.alloc_NextFree.{NextFree as IsNext};
+ghost use Rattle.ctr_undamaged.specs.alloc_NextFree.TheVariants.{Page as IsPage, Grow as IsGrow};
+ghost use Rattle.ctr_stops.specs.store_Store.{View, LeavesPage};
+ghost use Rattle.ctr_page_turns.specs.walk_OneRecord.{HasRoomForOne};
 ghost use Rattle.ctr_page_turns.specs.Turns.{Turns};
 ghost use Rattle.ctr_extend.specs.declared.ways.OnWay.TheVariants.{Wanted};
 ghost use Rattle.ctr_extend.specs.Steps.{MayExtend, ExtendsBy, IsCountedStep, LeavesRoom, MovesBy};
 
 use crate::ways::{Extended, OnWay};
-use ctr_actions::{an_action_gives_its_fact, growth_keeps_a_site};
-use ctr_alloc::{NextFree, alloc, next_free};
 use ctr_base::Origin;
 use ctr_disk::{Disk, StoreFault};
 use ctr_page_turns::{
-    a_record_acts, a_record_is_refused_by_the_disk_alone, a_turn_goes_on, room_is_still_there,
+    a_record_acts, a_record_is_refused_by_the_disk_alone, a_turn_goes_on, an_action_gives_its_fact,
+    growth_keeps_a_site, pages_lie_as_their_actions, room_is_still_there,
 };
-use ctr_passed::pages_lie_as_their_actions;
 use ctr_rec::PageNo;
-use ctr_store::Store;
+use ctr_stops::Store;
 use ctr_types::Xid;
+use ctr_undamaged::{NextFree, alloc, next_free};
 
 // A free page is allocated.
 fn take<D: Disk, O: Origin>(

@@ -2,8 +2,8 @@
 ghost use Rattle.std.specs.Prelude.{IfErr, ◌≡◌, ◌<◌, ℕ, IfOk};
 ghost use Rattle.ctr_disk.specs.declared.fault.StoreFault.TheVariants.{Fault};
 ghost use Rattle.ctr_base.specs.Base.{WhereSound};
-ghost use Rattle.ctr_walk.specs.OneRecord.{HasRoomForOne};
-ghost use Rattle.ctr_walk.specs.Tables.{IsChain, IsFirstPage};
+ghost use Rattle.ctr_page_turns.specs.walk_OneRecord.{HasRoomForOne};
+ghost use Rattle.ctr_page_turns.specs.walk_Tables.{IsChain, IsFirstPage};
 ghost use Rattle.ctr_page_turns.specs.Turns.{Turns};
 ghost use Rattle.ctr_extend.specs.declared.ways.OnWay.TheVariants.{Taken, Made};
 ghost use Rattle.ctr_extend.specs.Ways.{IsCountedWay, items_wanted};
@@ -16,11 +16,10 @@ use crate::ways::{Extended, OnWay};
 use ctr_base::Origin;
 use ctr_disk::{Disk, StoreFault};
 use ctr_page::Chain;
-use ctr_page_turns::{a_turn_goes_on, room_is_still_there};
+use ctr_page_turns::{a_turn_goes_on, first_page, room_is_still_there};
 use ctr_rec::PageNo;
-use ctr_store::Store;
+use ctr_stops::Store;
 use ctr_types::Xid;
-use ctr_walk::first_page;
 
 // The number of a chain's first page, 0 for none.
 fn number_of(first: Option<PageNo>) -> PageNo

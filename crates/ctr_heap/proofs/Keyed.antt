@@ -7,10 +7,10 @@ use Rattle.std.proofs.lemmas.Bool.Decides.{Decides-int_eq}
 use Rattle.ctr_page.specs.declared.rows.Place.{Place}
 use Rattle.ctr_page.specs.Places.{bucket_of}
 use Rattle.ctr_page.specs.Searching.{IsFirst}
-use Rattle.ctr_area.specs.Areas.{Area}
-use Rattle.ctr_area.specs.Chains.{pages_bound, pages_from, bucket_first}
-use Rattle.ctr_area.specs.Sound.{IsAmong, IsUsedSlot, AreReadable, AreKeyed}
-use Rattle.ctr_area.proofs.Buckets.{each_of, on_chain, in_chain, of_bucket, nothing_from_0, bucket_suffices}
+use Rattle.ctr_passed.specs.area_Areas.{Area}
+use Rattle.ctr_passed.specs.area_Chains.{pages_bound, pages_from, bucket_first}
+use Rattle.ctr_passed.specs.area_Sound.{IsAmong, IsUsedSlot, AreReadable, AreKeyed}
+use Rattle.ctr_passed.proofs.area_Buckets.{each_of, on_chain, in_chain, of_bucket, nothing_from_0, bucket_suffices}
 use Rattle.ctr_heap.specs.declared.slots.SlotSought.TheVariants.{Key}
 use Rattle.ctr_heap.specs.Slots.{seeks_in}
 

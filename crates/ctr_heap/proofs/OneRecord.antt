@@ -11,8 +11,8 @@ use Rattle.ctr_page.specs.declared.rows.RowSlot.{RowSlot}
 use Rattle.ctr_page.specs.Places.{slot_size, start_of}
 use Rattle.ctr_page.specs.Making.{header_bytes, slot_bytes, IsSlot}
 use Rattle.ctr_page.proofs.Back.{length-more, length-slot}
-use Rattle.ctr_record_effects.specs.Changing.{format_record, laid_in_entry}
-use Rattle.ctr_store.specs.Store.{View, MayLog}
+use Rattle.ctr_walk.specs.record_effects_Changing.{format_record, laid_in_entry}
+use Rattle.ctr_walk.specs.store_Store.{View, MayLog}
 use Rattle.ctr_walk.specs.OneRecord.{HasRoomForOne}
 use Rattle.ctr_walk.proofs.Records.{one_may}
 use Rattle.ctr_heap.specs.Writing.{slot_width, LiesOnPage, row_record, front_place, front_record}

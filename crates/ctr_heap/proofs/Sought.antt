@@ -6,7 +6,7 @@ use Rattle.std.specs.Ordering.{int_eq}
 use Rattle.std.proofs.lemmas.Bool.{eqb-true, eqb-false, eq-eqb, ne_eqb}
 use Rattle.ctr_types.specs.declared.value.Column.{Column}
 use Rattle.ctr_types.specs.declared.value.Kind.{Kind}
-use Rattle.ctr_versions.proofs.Keys.{known}
+use Rattle.ctr_passed.proofs.versions_Keys.{known}
 use Rattle.ctr_bytes.specs.Fields.{field}
 use Rattle.ctr_bytes.proofs.FieldLaws.{got_byte}
 use Rattle.ctr_rec.specs.Damage.{at_most}
@@ -18,9 +18,9 @@ use Rattle.ctr_page.specs.Damage.{slot_check, used_slot_check}
 use Rattle.ctr_page.specs.Searching.{IsFirst}
 use Rattle.ctr_page.proofs.Holding.{kinds_wide, most_ok}
 use Rattle.ctr_page.proofs.Searches.{ends_first}
-use Rattle.ctr_area.proofs.Bytes.{byte_in_piece}
-use Rattle.ctr_area.specs.Areas.{Slot, free_slot}
-use Rattle.ctr_area.specs.Reading.{version_said, slot_said, header_on, columns_on, width_on, size_of_kind, area_of}
+use Rattle.ctr_passed.proofs.area_Bytes.{byte_in_piece}
+use Rattle.ctr_passed.specs.area_Areas.{Slot, free_slot}
+use Rattle.ctr_passed.specs.area_Reading.{version_said, slot_said, header_on, columns_on, width_on, size_of_kind, area_of}
 use Rattle.ctr_heap.specs.declared.slots.SlotSought.{SlotSought}
 use Rattle.ctr_heap.specs.declared.slots.SlotSought.TheVariants.{Key, Free}
 use Rattle.ctr_heap.specs.Slots.{slot_is, checks_slot, seeks_slot, EndsSlots, is_sought, seeks_in}

@@ -10,10 +10,10 @@ use Rattle.ctr_page.specs.Places.{bucket_of}
 use Rattle.ctr_page.specs.Columns.{kinds_of, columns_in}
 use Rattle.ctr_page.specs.Searching.{IsFirst}
 use Rattle.ctr_page.specs.Walking.{most_in_chain}
-use Rattle.ctr_area.specs.Areas.{Area}
-use Rattle.ctr_area.specs.Reading.{entry_bytes, area_of}
-use Rattle.ctr_area.specs.Chains.{pages_bound, pages_from}
-use Rattle.ctr_area.specs.Sound.{IsOfRows, AreBuckets, AreReadable}
+use Rattle.ctr_passed.specs.area_Areas.{Area}
+use Rattle.ctr_passed.specs.area_Reading.{entry_bytes, area_of}
+use Rattle.ctr_passed.specs.area_Chains.{pages_bound, pages_from}
+use Rattle.ctr_passed.specs.area_Sound.{IsOfRows, AreBuckets, AreReadable}
 use Rattle.ctr_walk.specs.Damage.{EndsTold}
 use Rattle.ctr_walk.specs.Tables.{first_of_chain}
 use Rattle.ctr_walk.specs.Along.{ChainSought, EndsAlong}

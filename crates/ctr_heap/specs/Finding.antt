@@ -5,10 +5,10 @@ use Rattle.ctr_page.specs.declared.walk.BadChain.{BadChain}
 use Rattle.ctr_page.specs.declared.rows.Place.{Place}
 use Rattle.ctr_page.specs.Places.{slot_size, room_for}
 use Rattle.ctr_page.specs.Columns.{kinds_width}
-use Rattle.ctr_area.specs.Areas.{Area}
-use Rattle.ctr_area.specs.Chains.{places_from}
-use Rattle.ctr_area.specs.Checked.{kinds_at}
-use Rattle.ctr_area.specs.Sound.{IsAmong, IsUsedSlot, AreKeyed}
+use Rattle.ctr_passed.specs.area_Areas.{Area}
+use Rattle.ctr_passed.specs.area_Chains.{places_from}
+use Rattle.ctr_passed.specs.area_Checked.{kinds_at}
+use Rattle.ctr_passed.specs.area_Sound.{IsAmong, IsUsedSlot, AreKeyed}
 use Rattle.ctr_walk.specs.Along.{ChainSought}
 use Rattle.ctr_walk.specs.Tables.{chain_sought, first_of_chain, EndsChain}
 use Rattle.ctr_heap.specs.declared.slots.SlotSought.{SlotSought}

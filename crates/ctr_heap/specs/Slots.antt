@@ -9,7 +9,7 @@ use Rattle.ctr_page.specs.Reading.{slot_at}
 use Rattle.ctr_page.specs.Columns.{kinds_width, slot_start}
 use Rattle.ctr_page.specs.Damage.{slot_check}
 use Rattle.ctr_page.specs.Searching.{EndsSearch}
-use Rattle.ctr_area.specs.Areas.{Slot, Area}
+use Rattle.ctr_passed.specs.area_Areas.{Slot, Area}
 use Rattle.ctr_heap.specs.declared.slots.SlotSought.{SlotSought}
 use Rattle.ctr_heap.specs.declared.slots.SlotSought.TheVariants.{Key, Free}
 

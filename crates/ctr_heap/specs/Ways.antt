@@ -8,10 +8,10 @@ use Rattle.ctr_page.specs.declared.rows.RowSlot.{RowSlot}
 use Rattle.ctr_page.specs.Places.{has_previous}
 use Rattle.ctr_page.specs.Making.{IsVersion, IsSlot}
 use Rattle.ctr_page.specs.Columns.{kinds_of, kinds_width}
-use Rattle.ctr_area.specs.Areas.{RowVersion, Slot, Area}
-use Rattle.ctr_area.specs.Reading.{slot_said}
-use Rattle.ctr_area.specs.Sound.{IsUsedSlot}
-use Rattle.ctr_record_laws.specs.Owed.{IsSpareCopy, Writing, OverHead, HeadMoves, PreviousKept, HeadKept}
+use Rattle.ctr_passed.specs.area_Areas.{RowVersion, Slot, Area}
+use Rattle.ctr_passed.specs.area_Reading.{slot_said}
+use Rattle.ctr_passed.specs.area_Sound.{IsUsedSlot}
+use Rattle.ctr_passed.specs.record_laws_Owed.{IsSpareCopy, Writing, OverHead, HeadMoves, PreviousKept, HeadKept}
 use Rattle.ctr_passed.specs.Logged.{LeadsInside, IsVersionOf, IsSlotOf}
 use Rattle.ctr_heap.specs.Writing.{slot_width}
 use Rattle.ctr_heap.specs.declared.ways.Way.{Way}

@@ -8,13 +8,13 @@ use Rattle.ctr_page.specs.declared.table.TheConstants.{PAGE_SIZE, FIRSTS_AT, VER
 use Rattle.ctr_page.specs.Places.{slot_size, start_of}
 use Rattle.ctr_page.specs.Making.{slot_bytes, IsSlot}
 use Rattle.ctr_page.specs.Readable.{PartsHaveRoom}
-use Rattle.ctr_redo.specs.States.{State}
-use Rattle.ctr_area.specs.Reading.{entry_bytes, width_on, area_of, slot_said, columns_on}
-use Rattle.ctr_area.specs.Changes.{IsPlaceOf}
-use Rattle.ctr_record_laws.specs.Owed.{RowMove, slot_by, loses_head}
-use Rattle.ctr_record_effects.specs.States.{pages_in, area_in}
-use Rattle.ctr_record_effects.specs.Changing.{laid_on_place, link_record, link_older_record}
-use Rattle.ctr_actions.specs.Actions.{Action, Links, LinksOlder}
+use Rattle.ctr_passed.specs.redo_States.{State}
+use Rattle.ctr_passed.specs.area_Reading.{entry_bytes, width_on, area_of, slot_said, columns_on}
+use Rattle.ctr_passed.specs.area_Changes.{IsPlaceOf}
+use Rattle.ctr_passed.specs.record_laws_Owed.{RowMove, slot_by, loses_head}
+use Rattle.ctr_passed.specs.record_effects_States.{pages_in, area_in}
+use Rattle.ctr_walk.specs.record_effects_Changing.{laid_on_place, link_record, link_older_record}
+use Rattle.ctr_passed.specs.actions_Actions.{Action, Links, LinksOlder}
 
 -- ---- a slot
 

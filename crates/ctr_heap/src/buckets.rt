@@ -1,20 +1,18 @@
 // The slot of a key of a table, and a free slot of a bucket, by the table's entry of the catalog.
 ghost use Rattle.std.specs.Prelude.{◌≡◌, ◌<◌, false, IfOk, IfSome};
-ghost use Rattle.ctr_base.specs.Base.{WhereSound};
-ghost use Rattle.ctr_area.specs.Sound.{AreReadable};
+ghost use Rattle.ctr_walk.specs.base_Base.{WhereSound};
+ghost use Rattle.ctr_passed.specs.area_Sound.{AreReadable};
 ghost use Rattle.ctr_page.specs.Places.{bucket_of as bucket_by};
-ghost use Rattle.ctr_record_effects.specs.States.{pages_in, area_in};
+ghost use Rattle.ctr_passed.specs.record_effects_States.{pages_in, area_in};
 ghost use Rattle.ctr_heap.specs.declared.slots.SlotSought.TheVariants.{Key as KeySought, Free as FreeSought};
 ghost use Rattle.ctr_walk.specs.Damage.{damage_told, EndsTold, ReadsPages};
 ghost use Rattle.ctr_heap.specs.Finding.{EndsBucket, FindsKey, FindsFree, slots_on_page};
 
 use crate::found::{a_search_tells_a_free_slot, a_search_tells_the_key};
 use crate::slots::SlotSought;
-use ctr_base::Origin;
 use ctr_disk::{Disk, StoreFault};
 use ctr_page::{Chain, Place, bucket_of};
-use ctr_store::Store;
-use ctr_walk::search_chain;
+use ctr_walk::{Origin, Store, search_chain};
 
 /// The slot of a key of a table, by its entry of the catalog: the search goes along the chain of the key's bucket, and checks the entry, and
 /// each page as it is read. It logs nothing, and takes no memory.

@@ -3,12 +3,12 @@ ghost use Rattle.std.specs.Prelude.{◌≡◌, ◌≤◌, ℕ, ℤ, true, false,
 ghost use Rattle.std.specs.List.{AllByRecursion};
 ghost use Rattle.ctr_page.specs.declared.rows.Place.{Place};
 ghost use Rattle.ctr_page.specs.Searching.{IsFirst};
-ghost use Rattle.ctr_area.specs.Areas.{Area};
-ghost use Rattle.ctr_area.specs.Chains.{pages_bound, pages_from, places_from, bucket_first};
-ghost use Rattle.ctr_area.specs.Sound.{IsAmong, IsUsedSlot, AreReadable, AreKeyed};
+ghost use Rattle.ctr_passed.specs.area_Areas.{Area};
+ghost use Rattle.ctr_passed.specs.area_Chains.{pages_bound, pages_from, places_from, bucket_first};
+ghost use Rattle.ctr_passed.specs.area_Sound.{IsAmong, IsUsedSlot, AreReadable, AreKeyed};
 ghost use Rattle.ctr_heap.specs.declared.slots.SlotSought.TheVariants.{Key, Free};
 ghost use Rattle.ctr_page.specs.Walking.{most_in_chain};
-ghost use Rattle.ctr_area.specs.Reading.{area_of};
+ghost use Rattle.ctr_passed.specs.area_Reading.{area_of};
 ghost use Rattle.ctr_heap.specs.Slots.{seeks_in};
 ghost use Rattle.ctr_heap.specs.Finding.{bucket_sought};
 ghost use Rattle.ctr_page.specs.declared.checks.Chain.TheVariants.{Rows};

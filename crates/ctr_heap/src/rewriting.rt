@@ -10,10 +10,10 @@ ghost use Rattle.std.specs.Option.{option_map};
 ghost use Rattle.ctr_types.specs.declared.value.Column.{Column};
 ghost use Rattle.ctr_meta.specs.Tables.{Tables};
 ghost use Rattle.ctr_page.specs.Making.{IsVersion, IsSlot, IsEntry};
-ghost use Rattle.ctr_area.specs.Areas.{Slot};
-ghost use Rattle.ctr_area.specs.Reading.{version_said, slot_said, older_said};
-ghost use Rattle.ctr_area.specs.Images.{is_committed_in};
-ghost use Rattle.ctr_record_laws.specs.Owed.{older_copy, FirstVersion, written_slot, loses_head};
+ghost use Rattle.ctr_passed.specs.area_Areas.{Slot};
+ghost use Rattle.ctr_passed.specs.area_Reading.{version_said, slot_said, older_said};
+ghost use Rattle.ctr_passed.specs.area_Images.{is_committed_in};
+ghost use Rattle.ctr_passed.specs.record_laws_Owed.{older_copy, FirstVersion, written_slot, loses_head};
 ghost use Rattle.ctr_passed.specs.Logged.{IsSlotOf, IsOlderOf};
 ghost use Rattle.ctr_heap.specs.Ways.{IsWay, kept_version, writing_by, IsHeadOf, MayBeWritten};
 

@@ -5,7 +5,7 @@ ghost use Rattle.ctr_page.specs.declared.table.TheConstants.{PAGE_SIZE};
 ghost use Rattle.ctr_page.specs.Columns.{kinds_of};
 ghost use Rattle.ctr_page.specs.Places.{slot_size as size_of_slot, start_of};
 ghost use Rattle.ctr_page.specs.Searching.{IsFirst};
-ghost use Rattle.ctr_area.specs.Reading.{header_on, columns_on, area_of};
+ghost use Rattle.ctr_passed.specs.area_Reading.{header_on, columns_on, area_of};
 ghost use Rattle.ctr_heap.specs.declared.slots.SlotSought.{SlotSought};
 ghost use Rattle.ctr_heap.specs.Slots.{slot_is, EndsSlots, seeks_in};
 

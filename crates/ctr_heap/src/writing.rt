@@ -1,32 +1,29 @@
 // One record lays a slot, makes a page empty, or puts one at the front of a chain.
 ghost use Rattle.std.specs.Prelude.{◌≡◌, ◌≤◌, ◌<◌, ◌+◌, ◌/◌, ◌-◌, ◌^◌, IfSome, OnOk};
-ghost use Rattle.ctr_base.specs.declared.growing.TheConstants.{MOST_PAGES};
-ghost use Rattle.ctr_base.specs.Base.{WhereSound};
+ghost use Rattle.ctr_walk.specs.base_growing_TheConstants.{MOST_PAGES};
+ghost use Rattle.ctr_walk.specs.base_Base.{WhereSound};
 ghost use Rattle.ctr_bytes.specs.Fields.{spelled};
 ghost use Rattle.ctr_page.specs.Making.{IsHeader, header_bytes};
-ghost use Rattle.ctr_area.specs.Reading.{slot_said, columns_on};
-ghost use Rattle.ctr_area.specs.Changes.{with_slot};
+ghost use Rattle.ctr_passed.specs.area_Reading.{slot_said, columns_on};
+ghost use Rattle.ctr_passed.specs.area_Changes.{with_slot};
 ghost use Rattle.ctr_walk.specs.OneRecord.{HasRoomForOne, LogsOne};
-ghost use Rattle.ctr_record_effects.specs.States.{pages_in, area_in, IsWholePage};
-ghost use Rattle.ctr_record_effects.specs.Changing.{format_record};
-ghost use Rattle.ctr_record_laws.specs.Owed.{RowMove};
-ghost use Rattle.ctr_actions.specs.Sites.{site_of};
-ghost use Rattle.ctr_actions.specs.Actions.{Formats, Writes, site_after};
+ghost use Rattle.ctr_passed.specs.record_effects_States.{pages_in, area_in, IsWholePage};
+ghost use Rattle.ctr_walk.specs.record_effects_Changing.{format_record};
+ghost use Rattle.ctr_passed.specs.record_laws_Owed.{RowMove};
+ghost use Rattle.ctr_passed.specs.actions_Sites.{site_of};
+ghost use Rattle.ctr_passed.specs.actions_Actions.{Formats, Writes, site_after};
 ghost use Rattle.ctr_heap.specs.Writing.{LiesOnPage, row_record, HasPlaceFor, LaysMove, front_place, front_record, front_action, IsOfTable};
 
-use ctr_actions::a_logged_record_is_its_action;
-use ctr_base::Origin;
 use ctr_bytes::put_u32;
 use ctr_disk::{Disk, StoreFault};
 use ctr_page::{Header, Place, RowSlot, make_header, make_slot, slot_size};
+use ctr_passed::a_logged_record_is_its_action;
 use ctr_rec::{PageNo, Record};
-use ctr_record_effects::{
-    a_format_clears_its_page, a_link_changes_its_chain, a_slot_is_laid, over_cleared, over_entry,
-    over_place,
-};
-use ctr_store::Store;
 use ctr_types::Xid;
-use ctr_walk::log_on_page;
+use ctr_walk::{
+    Origin, Store, a_format_clears_its_page, a_link_changes_its_chain, a_slot_is_laid, log_on_page,
+    over_cleared, over_entry, over_place,
+};
 
 /// The bytes of a header.
 const HEADER: usize = 16;

@@ -3,8 +3,8 @@ use Rattle.std.proofs.Common.{◌≡◌, ◌≢◌, ◌+◌, ◌<◌, inl, inr, 
 use Rattle.std.proofs.lemmas.Bool.{cases_eq}
 use Rattle.std.proofs.lemmas.Bool.Decides.{eqb_tells}
 use Rattle.std.proofs.lemmas.List.{drop_more}
-use Rattle.ctr_types.specs.Damage.{damage_of}
-use Rattle.ctr_types.specs.declared.file.File.{File}
+use Rattle.ctr_disk.specs.types_Damage.{damage_of}
+use Rattle.ctr_disk.specs.types_File.{File}
 use Rattle.ctr_disk.specs.declared.fault.StoreFault.TheVariants.{Damaged}
 use Rattle.ctr_home.specs.declared.checks.Check.{Check}
 use Rattle.ctr_home.specs.Checks.{judged}

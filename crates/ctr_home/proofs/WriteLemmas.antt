@@ -3,8 +3,8 @@ use Rattle.std.proofs.Common.{◌≡◌, ◌≢◌, ◌⊎◌, inl, inr, ⊎_eli
 use Rattle.std.proofs.lemmas.Bool.{cases_eq, cases_lt}
 use Rattle.std.proofs.lemmas.Bool.Decides.{nat_tests}
 use Rattle.std.proofs.lemmas.List.{take_at, drop-drop, drop-take, length-take-le, take-append-le, get_or_at}
-use Rattle.ctr_types.specs.declared.file.File.{File}
-use Rattle.ctr_types.specs.declared.file.File.TheVariants.{Root as RootFile, LogA, LogB, Pages}
+use Rattle.ctr_disk.specs.types_File.{File}
+use Rattle.ctr_disk.specs.types_File.TheVariants.{Root as RootFile, LogA, LogB, Pages}
 use Rattle.ctr_disk.specs.Image.{Image, content, written, write_of, Torn, TornImage, OtherFilesStay}
 use Rattle.ctr_disk.specs.TornLaws.{torn_whole}
 use Rattle.ctr_disk.proofs.Torn.{torn_behind, torn_byte, written_behind, written_byte, written_end, split_at, same_but, content_written}

@@ -1,7 +1,7 @@
 -- A block of a file in two homes: a page, or the root.
 use Rattle.std.specs.Prelude.{◌+◌, ◌-◌, ◌*◌, ◌==◌, ◌&&◌, nat_lt, if◌then◌else◌, ℕ, List, [], ◌∷◌, ◌++◌, length, take, drop, replicate, Option, Some, None}
-use Rattle.ctr_types.specs.declared.file.File.{File}
-use Rattle.ctr_types.specs.declared.file.File.TheVariants.{Root as RootFile, Pages}
+use Rattle.ctr_disk.specs.types_File.{File}
+use Rattle.ctr_disk.specs.types_File.TheVariants.{Root as RootFile, Pages}
 use Rattle.ctr_disk.specs.Image.{Image, content}
 use Rattle.ctr_bytes.specs.Fields.{field, spelled}
 use Rattle.ctr_home.specs.declared.block.Block.{Block}

@@ -1,7 +1,7 @@
 -- Checks of numbers that are read.
 use Rattle.std.specs.Prelude.{◌≢◌, ◌==◌, if◌then◌else◌, ℕ, min, max, List, [], ◌∷◌, Result, Ok, Err, ⊤}
-use Rattle.ctr_types.specs.Damage.{damage_of}
-use Rattle.ctr_types.specs.declared.file.File.{File}
+use Rattle.ctr_disk.specs.types_Damage.{damage_of}
+use Rattle.ctr_disk.specs.types_File.{File}
 use Rattle.ctr_disk.specs.declared.fault.StoreFault.{StoreFault}
 use Rattle.ctr_disk.specs.declared.fault.StoreFault.TheVariants.{Fault, Damaged}
 use Rattle.ctr_home.specs.declared.checks.Check.{Check}

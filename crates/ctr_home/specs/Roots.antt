@@ -1,7 +1,7 @@
 -- The root: its body, its checks, and what a read of it answers.
 use Rattle.std.specs.Prelude.{◌≡◌, ◌≤◌, ◌+◌, ◌^◌, ℕ, List, [], ◌∷◌, ◌++◌, codes, Option, Some, None, Result, Ok, Err}
 use Rattle.ctr_disk.specs.Image.{Image}
-use Rattle.ctr_types.specs.declared.file.File.TheVariants.{Root as RootFile}
+use Rattle.ctr_disk.specs.types_File.TheVariants.{Root as RootFile}
 use Rattle.ctr_home.specs.declared.root.Root.{Root}
 use Rattle.ctr_disk.specs.declared.fault.StoreFault.{StoreFault}
 use Rattle.ctr_disk.specs.declared.fault.StoreFault.TheVariants.{Fault, Damaged}

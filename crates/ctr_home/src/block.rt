@@ -2,7 +2,7 @@
 ghost use Rattle.std.specs.Prelude.{◌≡◌, ◌+◌, ◌^◌, ◌≤◌, ◌<◌};
 ghost use Rattle.ctr_home.specs.Blocks.{file_of, block_number, body_len, home_len, home_place};
 
-use ctr_types::File;
+use ctr_disk::File;
 
 /// A page by its number, or the root.
 #[derive(Clone, Copy, Debug, PartialEq, Eq)]

@@ -2,8 +2,7 @@
 ghost use Rattle.std.specs.Prelude.{◌≡◌, IfErr};
 ghost use Rattle.ctr_home.specs.Checks.{judged, TellsApart};
 
-use ctr_disk::StoreFault;
-use ctr_types::{Damage, File};
+use ctr_disk::{Damage, File, StoreFault};
 
 /// A check of the number at a place of a file: it passes where what is there is what is wanted.
 /// Where a bound is wanted, `want` is the bound that is passed, or else the number itself.

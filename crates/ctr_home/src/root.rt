@@ -1,6 +1,6 @@
 // The root: which file has the oldest generation of the log that is kept, and how many pages count.
 ghost use Rattle.std.specs.Prelude.{◌≡◌, ◌≤◌, IsTrue, Err, IfOk, IfErr, IfSome, OnOk, OnErr};
-ghost use Rattle.ctr_types.specs.declared.file.File.TheVariants.{Root as RootFile};
+ghost use Rattle.ctr_disk.specs.types_File.TheVariants.{Root as RootFile};
 ghost use Rattle.ctr_disk.specs.declared.fault.StoreFault.TheVariants.{Fault};
 ghost use Rattle.ctr_disk.specs.Device.{LeavesOnly, IsDurable, IsSettled, OnlyReads, CountsAs};
 ghost use Rattle.ctr_home.specs.declared.block.Block.TheVariants.{Root as RootBlock};
@@ -14,8 +14,7 @@ use crate::checks::{Check, judge};
 use crate::reading::{find_home, read_body, read_number};
 use crate::writing::write_home;
 use ctr_bytes::{get_u8, get_u32, get_u64, put_u8, put_u32, put_u64};
-use ctr_disk::{Disk, Stamp, StoreFault};
-use ctr_types::File;
+use ctr_disk::{Disk, File, Stamp, StoreFault};
 
 /// The bytes `CTRDB001` as a number in 8 bytes.
 const MAGIC: u64 = 0x3130_3042_4452_5443;

@@ -1,2 +1,3 @@
 pub mod Outside
 pub mod Memory
+pub use Rattle.ctr_types.specs.Faults as types_Faults

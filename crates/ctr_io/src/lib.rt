@@ -9,6 +9,10 @@ mod memory;
 mod streams;
 
 pub use calls::Calls;
+pub use ctr_types::{
+    Act, Column, Entry, File, Kind, List, OutOfMemory, Refusal, Reply, Row, Rows, Schema, Tape,
+    Text, Value,
+};
 pub use edges::{Failed, Sink, Source};
 pub use memory::{MemSink, MemSource};
 pub use streams::{ReadSource, WriteSink};

@@ -23,8 +23,8 @@ use Rattle.ctr_legal.proofs.Reached.{waiting_answered, final_push}
 use Rattle.ctr_versions.proofs.Keys.{known}
 use Rattle.ctr_versions.specs.Engine.{SessionHeld}
 use Rattle.ctr_versions.specs.Laws.{IsNoSessions}
-use Rattle.ctr_actions.specs.Sites.{Site}
-use Rattle.ctr_actions.specs.Facts.{Fact}
+use Rattle.ctr_paged.specs.actions_Sites.{Site}
+use Rattle.ctr_paged.specs.actions_Facts.{Fact}
 use Rattle.ctr_paged.specs.Shown.{Scene}
 use Rattle.ctr_paged.specs.Moving.{answered_one}
 use Rattle.ctr_paged.proofs.Shown.{shown_answered}

@@ -4,15 +4,15 @@ use Rattle.std.specs.Prelude.{is_some}
 use Rattle.std.proofs.lemmas.Bool.{false≢true}
 use Rattle.ctr_types.specs.declared.statement.Line.{Line}
 use Rattle.ctr_model.specs.Tape.{at_start}
-use Rattle.ctr_area.specs.Chains.{pages_bound}
-use Rattle.ctr_area.specs.Images.{is_committed_in, image_rows, undo_size}
-use Rattle.ctr_record_laws.specs.Bounds.{IsInBounds}
+use Rattle.ctr_paged.specs.area_Chains.{pages_bound}
+use Rattle.ctr_paged.specs.area_Images.{is_committed_in, image_rows, undo_size}
+use Rattle.ctr_paged.specs.record_laws_Bounds.{IsInBounds}
 use Rattle.ctr_paged.specs.ctr_names.Held.{names_of_items}
-use Rattle.ctr_record_laws.proofs.Heads.{listed_drawn}
-use Rattle.ctr_record_laws.proofs.Xids.{among_in}
-use Rattle.ctr_actions.specs.Actions.{Begins, site_after}
-use Rattle.ctr_actions.specs.Facts.{HasNoPageBut, HoldsFact}
-use Rattle.ctr_actions.specs.Sites.{Site, IsSoundSite}
+use Rattle.ctr_paged.proofs.record_laws_Heads.{listed_drawn}
+use Rattle.ctr_paged.proofs.record_laws_Xids.{among_in}
+use Rattle.ctr_paged.specs.actions_Actions.{Begins, site_after}
+use Rattle.ctr_paged.specs.actions_Facts.{HasNoPageBut, HoldsFact}
+use Rattle.ctr_paged.specs.actions_Sites.{Site, IsSoundSite}
 use Rattle.ctr_paged.proofs.Opening.{shown_opened}
 use Rattle.ctr_kept.specs.Walk.{mind_at, Keeps}
 use Rattle.ctr_kept.proofs.Undo.{left_at_open, counts_at_open}

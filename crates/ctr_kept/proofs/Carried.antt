@@ -9,18 +9,18 @@ use Rattle.ctr_model.specs.Refusals.{has_lock}
 use Rattle.ctr_legal.specs.Kept.{AreApart}
 use Rattle.ctr_versions.proofs.Keys.{known}
 use Rattle.ctr_versions.specs.Engine.{SessionHeld}
-use Rattle.ctr_page.specs.declared.rows.Place.{Place}
-use Rattle.ctr_area.specs.Areas.{Title, Slot}
-use Rattle.ctr_area.specs.Chains.{pages_bound}
-use Rattle.ctr_area.specs.Images.{is_live, is_committed_in}
-use Rattle.ctr_area.specs.Sound.{IsAmong}
-use Rattle.ctr_record_laws.specs.Bounds.{IsInBounds}
-use Rattle.ctr_record_laws.specs.Owed.{RowMove}
-use Rattle.ctr_actions.specs.Sites.{Site, IsSoundSite}
-use Rattle.ctr_actions.specs.Actions.{Action, Begins, Allocates, Formats, Links, LinksOlder, Keeps, Writes, Creates, Drops, Commits, Frees, Uncreates, Undrops, Aborts, Reclaims, Reverts, Trims, Cuts, FreesOlder, MakesDead, Unlinks, UnlinksOlder, FreesEntry, Forgets, Checkpoints, Owes, site_after}
-use Rattle.ctr_actions.specs.Facts.{Fact, IsOpen, HasPage, HasNoPageBut, HasBlank, HasSlot, HasCopy, HasTable, HoldsFact, IsAway}
-use Rattle.ctr_actions.proofs.Slots.{rows_apart}
-use Rattle.ctr_actions.proofs.Stays.{title_stays, away_slot}
+use Rattle.ctr_paged.specs.page_Place.{Place}
+use Rattle.ctr_paged.specs.area_Areas.{Title, Slot}
+use Rattle.ctr_paged.specs.area_Chains.{pages_bound}
+use Rattle.ctr_paged.specs.area_Images.{is_live, is_committed_in}
+use Rattle.ctr_paged.specs.area_Sound.{IsAmong}
+use Rattle.ctr_paged.specs.record_laws_Bounds.{IsInBounds}
+use Rattle.ctr_paged.specs.record_laws_Owed.{RowMove}
+use Rattle.ctr_paged.specs.actions_Sites.{Site, IsSoundSite}
+use Rattle.ctr_paged.specs.actions_Actions.{Action, Begins, Allocates, Formats, Links, LinksOlder, Keeps, Writes, Creates, Drops, Commits, Frees, Uncreates, Undrops, Aborts, Reclaims, Reverts, Trims, Cuts, FreesOlder, MakesDead, Unlinks, UnlinksOlder, FreesEntry, Forgets, Checkpoints, Owes, site_after}
+use Rattle.ctr_paged.specs.actions_Facts.{Fact, IsOpen, HasPage, HasNoPageBut, HasBlank, HasSlot, HasCopy, HasTable, HoldsFact, IsAway}
+use Rattle.ctr_paged.proofs.actions_Slots.{rows_apart}
+use Rattle.ctr_paged.proofs.actions_Stays.{title_stays, away_slot}
 use Rattle.ctr_paged.specs.Shown.{Scene}
 use Rattle.ctr_kept.specs.Carried.{IsUnderLock, Covers, IsOfEntry, AreCarried, HasItsTable, IsAwayFrom}
 

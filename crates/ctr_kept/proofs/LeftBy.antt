@@ -5,12 +5,12 @@ use Rattle.ctr_rec.specs.declared.record.SlogItem.{SlogItem}
 use Rattle.ctr_rec.specs.declared.record.SlogItem.TheVariants.{AllocOf, FreeOf, CreateOf, DropOf}
 use Rattle.ctr_versions.specs.Engine.{SessionHeld}
 use Rattle.ctr_meta.specs.Items.{is_item_by}
-use Rattle.ctr_area.specs.Sound.{IsAmong}
-use Rattle.ctr_actions.specs.Sites.{Site, IsSoundSite}
-use Rattle.ctr_actions.specs.Actions.{Action, Owes, site_after}
-use Rattle.ctr_actions.proofs.Opens.{open_stays}
-use Rattle.ctr_actions.proofs.Order.{front_stays}
-use Rattle.ctr_record_laws.specs.Bounds.{IsInBounds}
+use Rattle.ctr_paged.specs.area_Sound.{IsAmong}
+use Rattle.ctr_paged.specs.actions_Sites.{Site, IsSoundSite}
+use Rattle.ctr_paged.specs.actions_Actions.{Action, Owes, site_after}
+use Rattle.ctr_paged.proofs.actions_Opens.{open_stays}
+use Rattle.ctr_paged.proofs.actions_Order.{front_stays}
+use Rattle.ctr_paged.specs.record_laws_Bounds.{IsInBounds}
 use Rattle.ctr_kept.proofs.Opening.{open_since, next_grows}
 use Rattle.ctr_kept.specs.Undo.{SparesUndo, Undo, IsTheirs, IsUndoLeft}
 

@@ -11,3 +11,6 @@ pub mod Beginning
 pub mod Answering
 pub mod Nobody
 pub mod Rolling
+pub use Rattle.ctr_paged.proofs.Opened as paged_Opened
+pub use Rattle.ctr_legal.proofs.Answered as legal_Answered
+pub use Rattle.ctr_legal.proofs.Tapes as legal_Tapes

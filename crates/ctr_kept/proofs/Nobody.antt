@@ -19,7 +19,7 @@ use Rattle.ctr_model.specs.Tape.{statement_of, statements_of, final, passed, Leg
 use Rattle.ctr_model.proofs.Outside.{next_outside-cases}
 use Rattle.ctr_model.proofs.Sessions.{find-put-other, find-without-other}
 use Rattle.ctr_versions.proofs.Keys.{known}
-use Rattle.ctr_area.specs.Sound.{IsAmong}
+use Rattle.ctr_paged.specs.area_Sound.{IsAmong}
 
 abbrev no_statements : List Statement
 no_statements = []

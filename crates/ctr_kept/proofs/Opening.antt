@@ -2,14 +2,14 @@
 use Rattle.std.proofs.Common.{◌≡◌, ◌⊎◌, ⊎_elim, inl, inr, ℕ, ◌≤◌, true, [], ◌∷◌, sym, ◌∙◌, subst, arith}
 use Rattle.ctr_meta.specs.Effects.{one_head_more, one_head_less}
 use Rattle.ctr_meta.specs.Tables.{is_in}
-use Rattle.ctr_area.specs.Sound.{IsAmong, xids_in}
-use Rattle.ctr_record_laws.proofs.Begin.{xids_append}
-use Rattle.ctr_record_laws.proofs.Leaving.{among_without}
-use Rattle.ctr_record_laws.proofs.Members.{among_parts}
-use Rattle.ctr_record_laws.proofs.Xids.{HaveSameXids, among_in, in_among, same_in, both_same, more_same, less_same}
-use Rattle.ctr_record_laws.specs.Owed.{RowMove, loses_head}
-use Rattle.ctr_actions.specs.Sites.{Site}
-use Rattle.ctr_actions.specs.Actions.{Action, Begins, Allocates, Formats, Links, LinksOlder, Keeps, Writes, Creates, Drops, Commits, Frees, Uncreates, Undrops, Aborts, Reclaims, Reverts, Trims, Cuts, FreesOlder, MakesDead, Unlinks, UnlinksOlder, FreesEntry, Forgets, Checkpoints, Owes, site_after}
+use Rattle.ctr_paged.specs.area_Sound.{IsAmong, xids_in}
+use Rattle.ctr_paged.proofs.record_laws_Begin.{xids_append}
+use Rattle.ctr_paged.proofs.record_laws_Leaving.{among_without}
+use Rattle.ctr_paged.proofs.record_laws_Members.{among_parts}
+use Rattle.ctr_paged.proofs.record_laws_Xids.{HaveSameXids, among_in, in_among, same_in, both_same, more_same, less_same}
+use Rattle.ctr_paged.specs.record_laws_Owed.{RowMove, loses_head}
+use Rattle.ctr_paged.specs.actions_Sites.{Site}
+use Rattle.ctr_paged.specs.actions_Actions.{Action, Begins, Allocates, Formats, Links, LinksOlder, Keeps, Writes, Creates, Drops, Commits, Frees, Uncreates, Undrops, Aborts, Reclaims, Reverts, Trims, Cuts, FreesOlder, MakesDead, Unlinks, UnlinksOlder, FreesEntry, Forgets, Checkpoints, Owes, site_after}
 
 no_less : {a b : ℕ} → b ≡ a → a ≤ b
 no_less is = omega (arith, is)

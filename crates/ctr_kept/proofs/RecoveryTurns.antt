@@ -22,25 +22,25 @@ use Rattle.ctr_versions.specs.Engine.{SessionHeld}
 use Rattle.ctr_versions.specs.Laws.{IsNoSessions}
 use Rattle.ctr_meta.specs.declared.items.Wanted.{Wanted}
 use Rattle.ctr_meta.specs.declared.items.Wanted.TheVariants.{Allocation, Creation, Dropping}
-use Rattle.ctr_area.specs.Areas.{Title}
-use Rattle.ctr_area.specs.Chains.{pages_bound}
-use Rattle.ctr_area.specs.Sound.{IsAmong, IsSchemaItem, xids_in}
-use Rattle.ctr_record_laws.proofs.Heads.{listed_drawn}
-use Rattle.ctr_record_laws.specs.Bounds.{IsInBounds}
-use Rattle.ctr_record_laws.proofs.Items.{any_there}
-use Rattle.ctr_record_laws.proofs.Members.{among_front, among_rest}
-use Rattle.ctr_record_laws.proofs.Xids.{once_parts}
-use Rattle.ctr_actions.specs.Sites.{Site}
-use Rattle.ctr_actions.specs.Actions.{Action, Frees, Reclaims, Uncreates, Undrops, Aborts, Owes, site_after}
-use Rattle.ctr_actions.specs.Facts.{Fact, IsOpen, HasPage, HasNoPageBut, HasBlank, HasSlot, HasCopy, HasTable, HoldsFact, IsAway}
-use Rattle.ctr_actions.proofs.Items.{wanted_itself}
+use Rattle.ctr_paged.specs.area_Areas.{Title}
+use Rattle.ctr_paged.specs.area_Chains.{pages_bound}
+use Rattle.ctr_paged.specs.area_Sound.{IsAmong, IsSchemaItem, xids_in}
+use Rattle.ctr_paged.proofs.record_laws_Heads.{listed_drawn}
+use Rattle.ctr_paged.specs.record_laws_Bounds.{IsInBounds}
+use Rattle.ctr_paged.proofs.record_laws_Items.{any_there}
+use Rattle.ctr_paged.proofs.record_laws_Members.{among_front, among_rest}
+use Rattle.ctr_paged.proofs.record_laws_Xids.{once_parts}
+use Rattle.ctr_paged.specs.actions_Sites.{Site}
+use Rattle.ctr_paged.specs.actions_Actions.{Action, Frees, Reclaims, Uncreates, Undrops, Aborts, Owes, site_after}
+use Rattle.ctr_paged.specs.actions_Facts.{Fact, IsOpen, HasPage, HasNoPageBut, HasBlank, HasSlot, HasCopy, HasTable, HoldsFact, IsAway}
+use Rattle.ctr_paged.proofs.actions_Items.{wanted_itself}
 use Rattle.ctr_paged.specs.Shown.{Scene, IsShown}
 use Rattle.ctr_paged.specs.Moving.{UndoesOrphans, IsItemOfName, MovesTo}
 use Rattle.ctr_paged.proofs.Moved.{moved}
 use Rattle.ctr_paged.proofs.Shown.{shown_grown}
 use Rattle.ctr_kept.specs.Carried.{IsUnderLock, AreCarried, IsAwayFrom}
-use Rattle.ctr_actions.specs.Actions.{undoing}
-use Rattle.ctr_actions.proofs.Order.{undone_goes}
+use Rattle.ctr_paged.specs.actions_Actions.{undoing}
+use Rattle.ctr_paged.proofs.actions_Order.{undone_goes}
 use Rattle.ctr_kept.specs.Undo.{IsUndoLeft, CountsTo, SparesUndo}
 use Rattle.ctr_kept.specs.Walk.{Mind, scene_of, HaveBegun, KeepsScene, Keeps}
 use Rattle.ctr_kept.proofs.Carried.{AnotherLeaves, carried_all}

@@ -28,13 +28,13 @@ use Rattle.ctr_legal.specs.Kept.{IsKept}
 use Rattle.ctr_versions.proofs.Keys.{known, some_is}
 use Rattle.ctr_versions.specs.Engine.{SessionHeld}
 use Rattle.ctr_versions.specs.Laws.{IsGranted, with_own}
-use Rattle.ctr_sessions.specs.Sessions.{IsDrawnFor}
-use Rattle.ctr_area.specs.Sound.{IsAmong}
-use Rattle.ctr_record_laws.specs.Bounds.{IsInBounds}
-use Rattle.ctr_record_laws.proofs.Heads.{listed_drawn}
-use Rattle.ctr_actions.specs.Sites.{Site}
-use Rattle.ctr_actions.specs.Actions.{Action, Begins, Commits, Aborts, Owes, site_after}
-use Rattle.ctr_actions.specs.Facts.{Fact, HoldsFact}
+use Rattle.ctr_paged.specs.sessions_Sessions.{IsDrawnFor}
+use Rattle.ctr_paged.specs.area_Sound.{IsAmong}
+use Rattle.ctr_paged.specs.record_laws_Bounds.{IsInBounds}
+use Rattle.ctr_paged.proofs.record_laws_Heads.{listed_drawn}
+use Rattle.ctr_paged.specs.actions_Sites.{Site}
+use Rattle.ctr_paged.specs.actions_Actions.{Action, Begins, Commits, Aborts, Owes, site_after}
+use Rattle.ctr_paged.specs.actions_Facts.{Fact, HoldsFact}
 use Rattle.ctr_paged.specs.Paged.{Run}
 use Rattle.ctr_paged.specs.Shown.{Scene}
 use Rattle.ctr_paged.specs.Moving.{held_as, with_its, without_its, begun_now, HoldsAll, MovesTo}

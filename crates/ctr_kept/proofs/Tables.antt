@@ -3,11 +3,11 @@ use Rattle.std.proofs.Common.{◌≡◌, ⊎_elim, inl, inr, ℕ, true, List, []
 use Rattle.std.specs.List.{AllByRecursion}
 use Rattle.ctr_model.specs.declared.state.Transaction.{Transaction}
 use Rattle.ctr_model.specs.State.{has_name}
-use Rattle.ctr_page.specs.declared.header.Header.{Header}
-use Rattle.ctr_area.specs.Sound.{IsAmong}
-use Rattle.ctr_area.proofs.Buckets.{each_of}
-use Rattle.ctr_actions.specs.Facts.{Fact, IsOpen, HasPage, HasNoPageBut, HasBlank, HasSlot, HasCopy, HasTable, HoldsFact}
-use Rattle.ctr_actions.specs.Sites.{Site}
+use Rattle.ctr_paged.specs.page_Header.{Header}
+use Rattle.ctr_paged.specs.area_Sound.{IsAmong}
+use Rattle.ctr_paged.proofs.area_Buckets.{each_of}
+use Rattle.ctr_paged.specs.actions_Facts.{Fact, IsOpen, HasPage, HasNoPageBut, HasBlank, HasSlot, HasCopy, HasTable, HoldsFact}
+use Rattle.ctr_paged.specs.actions_Sites.{Site}
 use Rattle.ctr_kept.specs.Carried.{IsUnderLock, IsOfEntry}
 use Rattle.ctr_kept.specs.Tables.{IsTable, AreTables}
 use Rattle.ctr_kept.specs.Turns.{Carries}

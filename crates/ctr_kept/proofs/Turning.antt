@@ -10,13 +10,13 @@ use Rattle.ctr_legal.specs.Kept.{IsKept}
 use Rattle.ctr_versions.proofs.Keys.{known}
 use Rattle.ctr_versions.specs.Engine.{SessionHeld}
 use Rattle.ctr_versions.specs.Laws.{IsNoSessions}
-use Rattle.ctr_sessions.specs.Sessions.{IsDrawnFor}
-use Rattle.ctr_area.specs.Areas.{Title}
-use Rattle.ctr_area.specs.Sound.{IsAmong}
-use Rattle.ctr_record_laws.specs.Bounds.{IsInBounds}
-use Rattle.ctr_actions.specs.Sites.{Site}
-use Rattle.ctr_actions.specs.Actions.{Action, Owes, site_after}
-use Rattle.ctr_actions.specs.Facts.{Fact, HasTable, HoldsFact}
+use Rattle.ctr_paged.specs.sessions_Sessions.{IsDrawnFor}
+use Rattle.ctr_paged.specs.area_Areas.{Title}
+use Rattle.ctr_paged.specs.area_Sound.{IsAmong}
+use Rattle.ctr_paged.specs.record_laws_Bounds.{IsInBounds}
+use Rattle.ctr_paged.specs.actions_Sites.{Site}
+use Rattle.ctr_paged.specs.actions_Actions.{Action, Owes, site_after}
+use Rattle.ctr_paged.specs.actions_Facts.{Fact, HasTable, HoldsFact}
 use Rattle.ctr_paged.specs.Shown.{Scene, IsShown}
 use Rattle.ctr_paged.specs.Moving.{MovesTo}
 use Rattle.ctr_paged.proofs.Moved.{moved}

@@ -10,15 +10,15 @@ use Rattle.ctr_versions.specs.Engine.{SessionHeld}
 use Rattle.ctr_meta.specs.Items.{is_item_by}
 use Rattle.ctr_meta.specs.Tables.{Tables, is_in, without_xid}
 use Rattle.ctr_meta.specs.Effects.{rolled_back}
-use Rattle.ctr_area.specs.Areas.{Area}
-use Rattle.ctr_area.specs.Sound.{IsAmong, AreAllOnce, xids_in, IsSoundArea}
-use Rattle.ctr_record_laws.specs.Owed.{HasNoItems, OwedByAbort, IsLastItem}
-use Rattle.ctr_record_laws.proofs.Leaving.{still_among, among_without, once_less}
-use Rattle.ctr_record_laws.proofs.Members.{among_parts, among_rest, among_front}
-use Rattle.ctr_record_laws.proofs.Xids.{among_in, in_among, once_parts}
-use Rattle.ctr_record_laws.proofs.Undone.{filter_append}
+use Rattle.ctr_paged.specs.area_Areas.{Area}
+use Rattle.ctr_paged.specs.area_Sound.{IsAmong, AreAllOnce, xids_in, IsSoundArea}
+use Rattle.ctr_paged.specs.record_laws_Owed.{HasNoItems, OwedByAbort, IsLastItem}
+use Rattle.ctr_paged.proofs.record_laws_Leaving.{still_among, among_without, once_less}
+use Rattle.ctr_paged.proofs.record_laws_Members.{among_parts, among_rest, among_front}
+use Rattle.ctr_paged.proofs.record_laws_Xids.{among_in, in_among, once_parts}
+use Rattle.ctr_paged.proofs.record_laws_Undone.{filter_append}
 use Rattle.ctr_versions.specs.Laws.{IsNoSessions}
-use Rattle.ctr_area.specs.Images.{undo_size}
+use Rattle.ctr_paged.specs.area_Images.{undo_size}
 use Rattle.ctr_kept.specs.Undo.{Undo, left_of, undo_at, IsTheirs, IsUndoLeft, CountsTo}
 
 -- ---- turns

@@ -15,8 +15,8 @@ use Rattle.ctr_legal.proofs.Reached.{legal_push, final_push, tape_reached, start
 use Rattle.ctr_legal.specs.Ready.{IsReached}
 use Rattle.ctr_versions.proofs.Keys.{known}
 use Rattle.ctr_versions.specs.Engine.{SessionHeld}
-use Rattle.ctr_sessions.specs.Sessions.{IsDrawnFor, ShowsBegun}
-use Rattle.ctr_actions.specs.Sites.{Site}
+use Rattle.ctr_paged.specs.sessions_Sessions.{IsDrawnFor, ShowsBegun}
+use Rattle.ctr_paged.specs.actions_Sites.{Site}
 use Rattle.ctr_paged.specs.Paged.{engine_at}
 use Rattle.ctr_paged.specs.Shown.{Scene}
 use Rattle.ctr_paged.proofs.Begun.{begun_shows}

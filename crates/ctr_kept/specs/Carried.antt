@@ -6,12 +6,12 @@ use Rattle.ctr_model.specs.declared.state.Transaction.{Transaction}
 use Rattle.ctr_model.specs.State.{has_name}
 use Rattle.ctr_model.specs.Refusals.{has_lock}
 use Rattle.ctr_versions.specs.Engine.{SessionHeld}
-use Rattle.ctr_area.specs.Areas.{Title}
-use Rattle.ctr_area.specs.Images.{is_live}
-use Rattle.ctr_area.specs.Sound.{IsAmong}
-use Rattle.ctr_actions.specs.Sites.{Site}
-use Rattle.ctr_actions.specs.Actions.{Action, Begins, Allocates, Formats, Links, LinksOlder, Keeps, Writes, Creates, Drops, Commits, Frees, Uncreates, Undrops, Aborts}
-use Rattle.ctr_actions.specs.Facts.{Fact, HasBlank, HasSlot, HasCopy, HasTable, HoldsFact, IsAway}
+use Rattle.ctr_paged.specs.area_Areas.{Title}
+use Rattle.ctr_paged.specs.area_Images.{is_live}
+use Rattle.ctr_paged.specs.area_Sound.{IsAmong}
+use Rattle.ctr_paged.specs.actions_Sites.{Site}
+use Rattle.ctr_paged.specs.actions_Actions.{Action, Begins, Allocates, Formats, Links, LinksOlder, Keeps, Writes, Creates, Drops, Commits, Frees, Uncreates, Undrops, Aborts}
+use Rattle.ctr_paged.specs.actions_Facts.{Fact, HasBlank, HasSlot, HasCopy, HasTable, HoldsFact, IsAway}
 use Rattle.ctr_paged.specs.Shown.{Scene}
 
 -- The lock or use by which a transaction may count on a fact. A table that is counted on is live, and

@@ -20,10 +20,10 @@ use Rattle.ctr_model.specs.Reply.{with_granted}
 use Rattle.ctr_model.specs.State.{transaction_of, with_transaction}
 use Rattle.ctr_model.specs.Tape.{statement_of, final, Comes, at_start}
 use Rattle.ctr_versions.specs.Engine.{SessionHeld}
-use Rattle.ctr_area.specs.Areas.{Title}
-use Rattle.ctr_area.specs.Sound.{IsAmong}
-use Rattle.ctr_actions.specs.Sites.{Site}
-use Rattle.ctr_actions.specs.Facts.{Fact, HasTable, HoldsFact}
+use Rattle.ctr_paged.specs.area_Areas.{Title}
+use Rattle.ctr_paged.specs.area_Sound.{IsAmong}
+use Rattle.ctr_paged.specs.actions_Sites.{Site}
+use Rattle.ctr_paged.specs.actions_Facts.{Fact, HasTable, HoldsFact}
 use Rattle.ctr_paged.specs.Shown.{Scene}
 use Rattle.ctr_paged.specs.Moving.{held_as, begun_now}
 use Rattle.ctr_kept.specs.Carried.{IsUnderLock, IsOfEntry}

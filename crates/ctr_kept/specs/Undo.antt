@@ -6,9 +6,9 @@ use Rattle.ctr_rec.specs.declared.record.SlogItem.TheVariants.{AllocOf, FreeOf, 
 use Rattle.ctr_versions.specs.Engine.{SessionHeld}
 use Rattle.ctr_versions.specs.Laws.{IsNoSessions}
 use Rattle.ctr_meta.specs.Tables.{Tables, is_in}
-use Rattle.ctr_area.specs.Sound.{IsAmong, AreAllOnce, xids_in}
-use Rattle.ctr_record_laws.specs.Owed.{HasNoItems}
-use Rattle.ctr_actions.specs.Actions.{Action, Reclaims}
+use Rattle.ctr_paged.specs.area_Sound.{IsAmong, AreAllOnce, xids_in}
+use Rattle.ctr_paged.specs.record_laws_Owed.{HasNoItems}
+use Rattle.ctr_paged.specs.actions_Actions.{Action, Reclaims}
 
 -- The items that are left, in the order of the secondary log; the transactions that are left; how
 -- many turns of undo there were; and the first number that a transaction of the run may have.

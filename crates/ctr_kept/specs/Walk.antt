@@ -11,9 +11,9 @@ use Rattle.ctr_model.specs.declared.tape.Point.{Point}
 use Rattle.ctr_model.specs.State.{transaction_of}
 use Rattle.ctr_model.specs.Tape.{statement_of, progress_of, final, Legal}
 use Rattle.ctr_versions.specs.Engine.{SessionHeld}
-use Rattle.ctr_sessions.specs.Sessions.{IsDrawnFor}
-use Rattle.ctr_actions.specs.Sites.{Site}
-use Rattle.ctr_actions.specs.Facts.{Fact}
+use Rattle.ctr_paged.specs.sessions_Sessions.{IsDrawnFor}
+use Rattle.ctr_paged.specs.actions_Sites.{Site}
+use Rattle.ctr_paged.specs.actions_Facts.{Fact}
 use Rattle.ctr_paged.specs.Paged.{Run, at_open}
 use Rattle.ctr_paged.specs.Shown.{Scene, IsShown}
 use Rattle.ctr_kept.specs.Carried.{AreCarried}

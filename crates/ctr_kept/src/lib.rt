@@ -7,6 +7,7 @@ mod sessions;
 mod silent;
 mod walks;
 
+pub use ctr_paged::an_image_opens;
 pub use recovery::{
     a_dying_table_is_away, a_page_is_given_back, a_table_is_undone, an_action_of_nobodys_is_kept,
     an_orphan_is_ended, recovery_is_in_no_transaction, undo_is_counted,

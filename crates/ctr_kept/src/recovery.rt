@@ -6,7 +6,7 @@ ghost use Rattle.ctr_kept.specs.Undo.{Undo, left_of, CountsTo, SparesUndo};
 ghost use Rattle.ctr_kept.specs.Walk.{Mind};
 ghost use Rattle.ctr_kept.specs.Turns.{Start, KeepsRun, state_now, scene_now, undone_mind, release_entry};
 
-use ctr_actions::{another_leaves_what_is_held, tables_in_use_stay_live};
+use ctr_paged::{another_leaves_what_is_held, tables_in_use_stay_live};
 
 /// Undo gives a page back: one that an orphan took and didn't link, or one that left its chain before the stop.
 pub fn a_page_is_given_back()

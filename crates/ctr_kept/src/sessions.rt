@@ -7,7 +7,7 @@ ghost use Rattle.ctr_kept.specs.Carried.{Covers};
 ghost use Rattle.ctr_kept.specs.Walk.{Mind};
 ghost use Rattle.ctr_kept.specs.Turns.{Start, KeepsRun, InTransaction, Telling, MayCome, telling, carrying, Carries, granted_to, drawn_mind, gone_mind, drawn_scene, asked_scene, state_now, scene_now};
 
-use ctr_actions::another_leaves_what_is_held;
+use ctr_paged::another_leaves_what_is_held;
 
 /// An action for room, or one that keeps a version, or that undoes an item of the session's own, makes no entry.
 pub fn a_turn_without_an_entry_is_kept()

@@ -4,12 +4,12 @@ use Rattle.std.specs.Prelude.{Result, ⊤}
 use Rattle.std.proofs.lemmas.Bool.{cases_eq}
 use Rattle.std.proofs.lemmas.List.{append-nil, drop-drop, get_or-drop}
 use Rattle.ctr_types.specs.declared.file.File.{File}
-use Rattle.ctr_disk.specs.declared.fault.StoreFault.{StoreFault}
-use Rattle.ctr_disk.specs.declared.fault.StoreFault.TheVariants.{Fault, Damaged}
-use Rattle.ctr_disk.specs.Image.{section}
-use Rattle.ctr_disk.proofs.Sections.{section_within}
-use Rattle.ctr_bytes.specs.Fields.{field}
-use Rattle.ctr_bytes.proofs.FieldLaws.{AreBytes}
+use Rattle.ctr_home.specs.disk_StoreFault.{StoreFault}
+use Rattle.ctr_home.specs.disk_StoreFault.TheVariants.{Fault, Damaged}
+use Rattle.ctr_home.specs.disk_Image.{section}
+use Rattle.ctr_home.proofs.disk_Sections.{section_within}
+use Rattle.ctr_home.specs.bytes_Fields.{field}
+use Rattle.ctr_home.proofs.bytes_FieldLaws.{AreBytes}
 use Rattle.ctr_log.specs.Damage.{IsDamageOf}
 use Rattle.ctr_log.specs.Logs.{Batches, frames, records, HasLog}
 use Rattle.ctr_log.specs.Reading.{ReadsLog, RefusesOrFails, AreFrames, HasFrames, ReadsFrames, HasSome}

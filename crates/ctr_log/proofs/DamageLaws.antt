@@ -5,11 +5,11 @@ use Rattle.std.proofs.lemmas.List.{get_or-drop}
 use Rattle.std.specs.Prelude.{Result, ⊤}
 use Rattle.ctr_types.specs.Damage.{damage_of}
 use Rattle.ctr_types.specs.declared.file.File.{File}
-use Rattle.ctr_disk.specs.Image.{section}
-use Rattle.ctr_disk.specs.declared.fault.StoreFault.{StoreFault}
-use Rattle.ctr_disk.specs.declared.fault.StoreFault.TheVariants.{Fault, Damaged}
-use Rattle.ctr_bytes.specs.Fields.{field}
-use Rattle.ctr_bytes.proofs.FieldLaws.{field-drop}
+use Rattle.ctr_home.specs.disk_Image.{section}
+use Rattle.ctr_home.specs.disk_StoreFault.{StoreFault}
+use Rattle.ctr_home.specs.disk_StoreFault.TheVariants.{Fault, Damaged}
+use Rattle.ctr_home.specs.bytes_Fields.{field}
+use Rattle.ctr_home.proofs.bytes_FieldLaws.{field-drop}
 use Rattle.ctr_home.specs.declared.checks.Check.{Check}
 use Rattle.ctr_home.specs.Checks.{check_of, judged}
 use Rattle.ctr_home.proofs.CheckLemmas.{judged_same, judged_fails, all_pass, pass_all}

@@ -2,17 +2,17 @@
 use Rattle.std.proofs.Common.{◌≡◌, inl, inr, ℕ, ◌+◌, ◌-◌, ◌^◌, ◌<◌, List, [], ◌∷◌, ◌++◌, length, take, drop, vec_len, refl, sym, ◌∙◌, ap, subst, arith, length-append, length-drop}
 use Rattle.std.proofs.lemmas.List.{append-nil, take_at, drop_at, take_all}
 use Rattle.ctr_types.specs.declared.file.File.{File}
-use Rattle.ctr_disk.specs.declared.disk.Disk.{Ghosts}
-use Rattle.ctr_disk.specs.Image.{Image, content, OtherFilesStay}
-use Rattle.ctr_disk.specs.Device.{LeavesOnly}
-use Rattle.ctr_disk.proofs.Moments.{weaker}
+use Rattle.ctr_home.specs.disk_Disk.{Ghosts}
+use Rattle.ctr_home.specs.disk_Image.{Image, content, OtherFilesStay}
+use Rattle.ctr_home.specs.disk_Device.{LeavesOnly}
+use Rattle.ctr_home.proofs.disk_Moments.{weaker}
 use Rattle.ctr_log.specs.declared.log.LogFile.TheInside.{Inside}
-use Rattle.ctr_bytes.specs.Fields.{spelled}
+use Rattle.ctr_home.specs.bytes_Fields.{spelled}
 use Rattle.ctr_log.specs.Logs.{Log, headed, sealed, frames, batches, records, GoesOn, Extends, IsBeforeOrAfter, IsAfter, HasPrefix, IsFlushing, with_batch, unframed, HasBatches}
 use Rattle.ctr_log.specs.LogFile.{log_of, IsWriter}
 use Rattle.ctr_log.specs.Kept.{WritesBehind, KeepsPrefix, GoesOnWith}
 use Rattle.ctr_log.proofs.KeptLaws.{kept_leaves, kept_goes_on, front_same}
-use Rattle.ctr_bytes.proofs.FieldLaws.{length-spelled}
+use Rattle.ctr_home.proofs.bytes_FieldLaws.{length-spelled}
 use Rattle.ctr_log.proofs.LogLemmas.{length-push, length-unframed, length-batches-push, records-push}
 
 pub length-headed : (first count : ℕ) (bytes : List ℕ) → length (headed first count bytes) ≡ 20 + length bytes

@@ -1,8 +1,8 @@
 -- A writer behind two generations is one behind the newer alone, where the root names that.
 use Rattle.std.proofs.Common.{◌≡◌, inr, ℕ, zero, suc, ◌+◌, ◌<◌, ◌≤◌, Bool, false, [], ◌∷◌, length, refl, sym, ◌∙◌, subst, arith, length-append}
 use Rattle.ctr_types.specs.declared.file.File.{File}
-use Rattle.ctr_disk.specs.Image.{Image, content}
-use Rattle.ctr_bytes.specs.Fields.{field}
+use Rattle.ctr_home.specs.disk_Image.{Image, content}
+use Rattle.ctr_home.specs.bytes_Fields.{field}
 use Rattle.ctr_log.specs.Logs.{Batches, records, AreBatches, HasLog, Log}
 use Rattle.ctr_log.specs.Reading.{log_file}
 use Rattle.ctr_log.specs.Kept.{other_file, other_byte, IsDropped, WritesTwo, WritesBy, WritesBehind, Forgets}

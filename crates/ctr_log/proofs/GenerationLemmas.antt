@@ -4,10 +4,10 @@ use Rattle.std.proofs.lemmas.List.{take-append-le, take_min}
 use Rattle.std.proofs.Math.Seq.{take-append-add}
 use Rattle.ctr_types.specs.declared.file.File.{File}
 use Rattle.ctr_types.specs.declared.file.File.TheVariants.{Root, LogA, LogB, Pages}
-use Rattle.ctr_disk.specs.Image.{Image, OtherFilesStay}
-use Rattle.ctr_disk.specs.declared.disk.Disk.{Ghosts}
-use Rattle.ctr_disk.specs.Device.{LeavesOnly}
-use Rattle.ctr_disk.proofs.Moments.{joined, weaker}
+use Rattle.ctr_home.specs.disk_Image.{Image, OtherFilesStay}
+use Rattle.ctr_home.specs.disk_Disk.{Ghosts}
+use Rattle.ctr_home.specs.disk_Device.{LeavesOnly}
+use Rattle.ctr_home.proofs.disk_Moments.{joined, weaker}
 use Rattle.ctr_log.specs.Logs.{Log}
 use Rattle.ctr_log.specs.Fresh.{SameRoot}
 use Rattle.ctr_log.specs.Reading.{log_file}

@@ -1,7 +1,7 @@
 -- What the steps of making a database leave.
 use Rattle.std.proofs.Common.{◌≡◌, ℕ, List, [], ◌∷◌, ◌++◌, drop, refl, sym, ◌∙◌, ap, subst, arith}
 use Rattle.ctr_types.specs.declared.file.File.TheVariants.{LogA, LogB}
-use Rattle.ctr_disk.specs.Image.{Image, write_of, TornImage}
+use Rattle.ctr_home.specs.disk_Image.{Image, write_of, TornImage}
 use Rattle.ctr_log.specs.Logs.{batch, Extends, IsBeforeOrAfter, IsAfter}
 use Rattle.ctr_log.specs.Fresh.{first_checkpoint, IsClosed, LogsAreReady, AreEmptied, SameRoot}
 

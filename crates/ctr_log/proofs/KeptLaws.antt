@@ -3,14 +3,14 @@ use Rattle.std.proofs.Common.{◌≡◌, ◌≢◌, inl, inr, ⊎_elim, ℕ, zer
 use Rattle.std.proofs.lemmas.List.{append-nil, take_all, take_at, drop_at, drop-drop}
 use Rattle.std.proofs.lemmas.Bool.Decides.{eqb_tells, nat_tests}
 use Rattle.ctr_types.specs.declared.file.File.{File}
-use Rattle.ctr_disk.specs.Image.{Image, content, OtherFilesStay}
-use Rattle.ctr_disk.specs.declared.disk.Disk.{Ghosts}
-use Rattle.ctr_disk.specs.Device.{LeavesOnly}
-use Rattle.ctr_disk.specs.TornLaws.{torn_nothing}
-use Rattle.ctr_disk.proofs.Moments.{weaker}
-use Rattle.ctr_disk.proofs.Torn.{same_but}
-use Rattle.ctr_bytes.specs.Fields.{field}
-use Rattle.ctr_bytes.proofs.FieldLaws.{field-drop}
+use Rattle.ctr_home.specs.disk_Image.{Image, content, OtherFilesStay}
+use Rattle.ctr_home.specs.disk_Disk.{Ghosts}
+use Rattle.ctr_home.specs.disk_Device.{LeavesOnly}
+use Rattle.ctr_home.specs.disk_TornLaws.{torn_nothing}
+use Rattle.ctr_home.proofs.disk_Moments.{weaker}
+use Rattle.ctr_home.proofs.disk_Torn.{same_but}
+use Rattle.ctr_home.specs.bytes_Fields.{field}
+use Rattle.ctr_home.proofs.bytes_FieldLaws.{field-drop}
 use Rattle.ctr_log.specs.Logs.{Batches, frames, batch, batches, records, AreBatches, HasBatches, HasLog, Log, GoesOn, unframed, IsBeforeOrAfter, IsAfter, with_batch}
 use Rattle.ctr_log.specs.Reading.{log_file}
 use Rattle.ctr_log.specs.Kept.{logged, log_in, kept_in, kept_log, other_file, IsDropped, AreShort, HoldsOne, HoldsTwo, HoldsLog, WritesBy, KeepsPrefix, GoesOnWith, StaysDropped}

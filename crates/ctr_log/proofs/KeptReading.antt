@@ -5,17 +5,17 @@ use Rattle.std.proofs.lemmas.Bool.{false≢true}
 use Rattle.std.proofs.lemmas.Bool.Decides.{nat_tests}
 use Rattle.std.proofs.lemmas.List.{append-nil}
 use Rattle.ctr_types.specs.declared.file.File.{File}
-use Rattle.ctr_disk.specs.Image.{Image, content, section}
+use Rattle.ctr_home.specs.disk_Image.{Image, content, section}
 use Rattle.ctr_home.specs.declared.root.Root.{Root}
-use Rattle.ctr_disk.specs.declared.fault.StoreFault.TheVariants.{Fault, Damaged}
-use Rattle.ctr_bytes.specs.Fields.{field}
-use Rattle.ctr_bytes.proofs.FieldLaws.{field-drop}
+use Rattle.ctr_home.specs.disk_StoreFault.TheVariants.{Fault, Damaged}
+use Rattle.ctr_home.specs.bytes_Fields.{field}
+use Rattle.ctr_home.proofs.bytes_FieldLaws.{field-drop}
 use Rattle.ctr_log.specs.declared.reading.ReadError.{ReadError}
 use Rattle.ctr_log.specs.declared.reading.ReadError.TheVariants.{Store, OutOfMemory}
 use Rattle.ctr_log.specs.Logs.{Batches, batch, batches, records, HasLog, Log, GoesOn}
 use Rattle.ctr_log.specs.Reading.{log_file, ReadsLog, HasSome, IsEmptyAt, RefusesOrFails}
 use Rattle.ctr_log.specs.Kept.{NamesKept, log_in, begins_at, kept_log, other_file, next_file, IsDropped, AreShort, RefusesKept, HoldsTwo, HoldsLog, StandsLog, OpensKept, StartsAt, WritesBy, WritesBehind, writer_file, has_newer}
-use Rattle.ctr_disk.specs.declared.fault.StoreFault.{StoreFault}
+use Rattle.ctr_home.specs.disk_StoreFault.{StoreFault}
 use Rattle.ctr_log.specs.LogChecks.{file_damage, damage_or, kept_damage, if_passed, sound_visits, sound_kept_visits, IsThisDamage}
 use Rattle.ctr_log.specs.Visits.{IsGiven, GivesPart, StopsAt, OnRead}
 use Rattle.ctr_log.specs.declared.visitor.Visit.{Visit}

@@ -13,3 +13,4 @@ pub mod StartLemmas
 pub mod GenerationLemmas
 mod KeptReading
 pub mod ForgetLaws
+pub use Rattle.ctr_home.proofs.HomeLemmas as home_HomeLemmas

@@ -3,12 +3,12 @@ use Rattle.std.proofs.Common.{◌≡◌, inl, inr, ℕ, zero, suc, ◌+◌, ◌*
 use Rattle.std.proofs.lemmas.Bool.{cases_eq}
 use Rattle.std.proofs.lemmas.List.{append-nil, take_at, drop_at, drop-drop, drop-append-le}
 use Rattle.ctr_types.specs.declared.file.File.{File}
-use Rattle.ctr_disk.specs.Image.{Image, content, write_of, written, Torn, TornImage, OtherFilesStay}
-use Rattle.ctr_bytes.specs.Fields.{spelled, field}
+use Rattle.ctr_home.specs.disk_Image.{Image, content, write_of, written, Torn, TornImage, OtherFilesStay}
+use Rattle.ctr_home.specs.bytes_Fields.{spelled, field}
 use Rattle.ctr_log.specs.Logs.{frame, frames, batch, batches, records, IsBatch, AreBatches, unframed, Extends, IsBeforeOrAfter, IsAfter, HasBatches}
-use Rattle.ctr_bytes.proofs.FieldLaws.{length-spelled, field_at}
-use Rattle.ctr_disk.specs.TornLaws.{torn_whole}
-use Rattle.ctr_disk.proofs.Torn.{torn_behind, torn_byte, written_behind, written_byte, same_but, content_written}
+use Rattle.ctr_home.proofs.bytes_FieldLaws.{length-spelled, field_at}
+use Rattle.ctr_home.specs.disk_TornLaws.{torn_whole}
+use Rattle.ctr_home.proofs.disk_Torn.{torn_behind, torn_byte, written_behind, written_byte, same_but, content_written}
 
 pub length-frame : (r : List ℕ) → length (frame r) ≡ 8 + length r
 length-frame r = omega (arith, length-append (spelled 8 (length r)) r, length-spelled 8 (length r))

@@ -1,8 +1,8 @@
 -- Where the next record of a log stands once it is flushed.
 use Rattle.std.proofs.Common.{◌≡◌, ℕ, ◌+◌, List, [], ◌∷◌, ◌++◌, length, take, drop, refl, sym, ◌∙◌, ap, arith, length-append, append_assoc}
 use Rattle.std.proofs.lemmas.List.{take_at, drop_at}
-use Rattle.ctr_bytes.specs.Fields.{spelled}
-use Rattle.ctr_bytes.proofs.FieldLaws.{length-spelled}
+use Rattle.ctr_home.specs.bytes_Fields.{spelled}
+use Rattle.ctr_home.proofs.bytes_FieldLaws.{length-spelled}
 use Rattle.ctr_log.specs.Logs.{Batches, frame, frames, batches, records, with_batch, HasLog}
 use Rattle.ctr_log.proofs.LogLemmas.{frames-push, batches-push, length-push}
 use Rattle.ctr_log.proofs.FlushLemmas.{with_some}

@@ -1,10 +1,10 @@
 -- What stands in bytes that are read.
 use Rattle.std.proofs.Common.{◌*◌, ◌≡◌, ◌≢◌, ℕ, ◌+◌, ◌-◌, ◌^◌, ◌≤◌, ◌<◌, List, [], ◌∷◌, ◌++◌, length, take, drop, get_or, refl, sym, ◌∙◌, ap, arith, length-append, length-take, length-drop, take-append-drop, append_assoc}
 use Rattle.std.proofs.lemmas.List.{append-nil, take_at, take-take, drop_at, drop_more, drop-drop, drop-take, length-take-le}
-use Rattle.ctr_bytes.specs.Fields.{spelled, field}
+use Rattle.ctr_home.specs.bytes_Fields.{spelled, field}
 use Rattle.ctr_log.specs.Logs.{frame, frames, batch, batches, records, IsBatch, AreBatches, HasLog}
 use Rattle.ctr_log.specs.Reading.{ReadsFrames, BeginsWithBatch, ReadsBatch, ReadsLog}
-use Rattle.ctr_bytes.proofs.FieldLaws.{AreBytes, side, spelled_field, field-drop, field-append}
+use Rattle.ctr_home.proofs.bytes_FieldLaws.{AreBytes, side, spelled_field, field-drop, field-append}
 use Rattle.ctr_log.proofs.LogLemmas.{length-frame, length-batch, frame_field, frame_record, frame_rest, batch_length, batch_first, batch_count, batch_frames, batches-push, records-push, each-push, frames-push}
 
 -- a frame at the front of bytes

@@ -5,9 +5,9 @@ use Rattle.std.specs.Prelude.{Result, ⊤}
 use Rattle.std.proofs.lemmas.Bool.{cases_eq}
 use Rattle.std.proofs.lemmas.List.{append-nil}
 use Rattle.ctr_types.specs.declared.file.File.{File}
-use Rattle.ctr_disk.specs.declared.fault.StoreFault.{StoreFault}
-use Rattle.ctr_disk.specs.Image.{Image, content}
-use Rattle.ctr_bytes.specs.Fields.{field}
+use Rattle.ctr_home.specs.disk_StoreFault.{StoreFault}
+use Rattle.ctr_home.specs.disk_Image.{Image, content}
+use Rattle.ctr_home.specs.bytes_Fields.{field}
 use Rattle.ctr_home.specs.declared.checks.Check.{Check}
 use Rattle.ctr_home.specs.Checks.{check_of, judged}
 use Rattle.ctr_log.specs.Reading.{log_file}

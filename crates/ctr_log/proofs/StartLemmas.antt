@@ -2,13 +2,13 @@
 use Rattle.std.proofs.Common.{◌≡◌, inl, inr, ℕ, zero, suc, ◌+◌, ◌^◌, ◌<◌, ◌≤◌, Bool, true, List, [], ◌∷◌, ◌++◌, length, drop, get_or, vec_len, refl, sym, ◌∙◌, ap, subst, arith, length-append, length-drop}
 use Rattle.std.proofs.lemmas.List.{append-nil, drop_at}
 use Rattle.ctr_types.specs.declared.file.File.{File}
-use Rattle.ctr_disk.specs.Image.{Image, content, Torn, TornImage, OtherFilesStay}
-use Rattle.ctr_disk.specs.declared.disk.Disk.{Ghosts}
-use Rattle.ctr_disk.specs.Device.{LeavesOnly}
-use Rattle.ctr_disk.proofs.Torn.{torn_byte, same_but}
-use Rattle.ctr_disk.proofs.Moments.{joined, weaker}
-use Rattle.ctr_bytes.specs.Fields.{field}
-use Rattle.ctr_bytes.proofs.FieldLaws.{field-drop}
+use Rattle.ctr_home.specs.disk_Image.{Image, content, Torn, TornImage, OtherFilesStay}
+use Rattle.ctr_home.specs.disk_Disk.{Ghosts}
+use Rattle.ctr_home.specs.disk_Device.{LeavesOnly}
+use Rattle.ctr_home.proofs.disk_Torn.{torn_byte, same_but}
+use Rattle.ctr_home.proofs.disk_Moments.{joined, weaker}
+use Rattle.ctr_home.specs.bytes_Fields.{field}
+use Rattle.ctr_home.proofs.bytes_FieldLaws.{field-drop}
 use Rattle.ctr_log.specs.declared.log.LogFile.TheInside.{Inside}
 use Rattle.ctr_log.specs.Logs.{Log, frame, frames, batch, records, sealed, unframed, HasBatches, HasLog, GoesOn, Extends, IsBeforeOrAfter, IsAfter}
 use Rattle.ctr_log.specs.LogFile.{log_of, IsWriter}

@@ -3,8 +3,8 @@ use Rattle.std.proofs.Common.{◌≡◌, ℕ, zero, suc, ◌+◌, ◌-◌, ◌==
 use Rattle.std.proofs.lemmas.List.{drop-drop}
 use Rattle.std.proofs.Math.Seq.{take-nil}
 use Rattle.ctr_types.specs.declared.file.File.{File}
-use Rattle.ctr_disk.specs.Image.{Image, content}
-use Rattle.ctr_bytes.specs.Fields.{field}
+use Rattle.ctr_home.specs.disk_Image.{Image, content}
+use Rattle.ctr_home.specs.bytes_Fields.{field}
 use Rattle.ctr_log.specs.Logs.{unframed}
 use Rattle.ctr_log.specs.Reading.{log_file}
 use Rattle.ctr_log.specs.Kept.{logged, log_in, kept_log, other_file, has_newer}

@@ -2,12 +2,12 @@
 use Rattle.std.proofs.Common.{◌≡◌, ℕ, suc, ◌+◌, ◌-◌, ◌^◌, ◌≤◌, ◌<◌, List, [], ◌∷◌, ◌++◌, length, drop, refl, sym, ◌∙◌, ap, subst, arith, length-append, append_assoc, Ok, Err}
 use Rattle.std.proofs.lemmas.List.{append-nil}
 use Rattle.ctr_types.specs.declared.file.File.{File}
-use Rattle.ctr_bytes.specs.Fields.{field}
+use Rattle.ctr_home.specs.bytes_Fields.{field}
 use Rattle.ctr_log.specs.Logs.{frame, frames}
 use Rattle.ctr_log.specs.Reading.{BeginsWithFrame, HasFrames}
 use Rattle.std.specs.Prelude.{Result, ⊤}
-use Rattle.ctr_disk.specs.declared.fault.StoreFault.{StoreFault}
-use Rattle.ctr_disk.specs.declared.fault.StoreFault.TheVariants.{Fault, Damaged}
+use Rattle.ctr_home.specs.disk_StoreFault.{StoreFault}
+use Rattle.ctr_home.specs.disk_StoreFault.TheVariants.{Fault, Damaged}
 use Rattle.ctr_log.specs.declared.reading.ReadError.{ReadError}
 use Rattle.ctr_log.specs.declared.reading.ReadError.TheVariants.{Store, OutOfMemory}
 use Rattle.ctr_log.specs.LogChecks.{IsThisDamage}

@@ -1,6 +1,6 @@
 -- What the reading of one batch of a file of the log finds.
 use Rattle.std.specs.Prelude.{◌≡◌, ◌≢◌, ◌≤◌, ◌<◌, ◌-◌, ◌^◌, ℕ, List, ◌∷◌, ◌++◌, length, slice_index, Option, Some, None}
-use Rattle.ctr_bytes.specs.Fields.{field}
+use Rattle.ctr_home.specs.bytes_Fields.{field}
 use Rattle.ctr_log.specs.Logs.{frames, batch, IsBatch}
 use Rattle.ctr_log.specs.Reading.{BeginsWithBatch, HasFrames, ReadsLog}
 use Rattle.ctr_log.specs.declared.batches.Batch.{Batch}

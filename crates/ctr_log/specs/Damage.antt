@@ -1,8 +1,8 @@
 -- Where a check failed, what it wants and what is there.
 use Rattle.std.specs.Prelude.{◌≡◌, ◌≢◌}
 use Rattle.ctr_types.specs.declared.file.File.{File}
-use Rattle.ctr_disk.specs.declared.fault.StoreFault.{StoreFault}
-use Rattle.ctr_disk.specs.declared.fault.StoreFault.TheVariants.{Fault, Damaged}
+use Rattle.ctr_home.specs.disk_StoreFault.{StoreFault}
+use Rattle.ctr_home.specs.disk_StoreFault.TheVariants.{Fault, Damaged}
 use Rattle.ctr_home.specs.Checks.{TellsApart}
 
 -- An error is damage of a file, and what is wanted there differs from what is there.

@@ -1,7 +1,7 @@
 -- The logs of a database that was just made: a checkpoint of nothing.
 use Rattle.std.specs.Prelude.{◌≡◌, ◌≢◌, ℕ, List, [], ◌∷◌, ◌++◌}
-use Rattle.ctr_disk.specs.Image.{Image}
-use Rattle.ctr_bytes.specs.Fields.{spelled}
+use Rattle.ctr_home.specs.disk_Image.{Image}
+use Rattle.ctr_home.specs.bytes_Fields.{spelled}
 use Rattle.ctr_log.specs.Logs.{Batches, HasLog}
 
 -- the checkpoint of a database without transactions: tag 1, next xid 1, three empty lists, no

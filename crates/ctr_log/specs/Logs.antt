@@ -2,12 +2,12 @@
 use Rattle.std.specs.Prelude.{◌≡◌, ◌≢◌, ◌⊎◌, ℕ, zero, suc, Bool, ◌+◌, ◌^◌, ◌<◌, List, [], ◌∷◌, ◌++◌, length, take, drop, Result, Err, OnOk, OnErr, ◌≤◌}
 use Rattle.ctr_types.specs.declared.file.File.{File}
 use Rattle.ctr_types.specs.Faults.{HasFault}
-use Rattle.ctr_disk.specs.declared.disk.Disk.{Ghosts}
-use Rattle.ctr_disk.specs.declared.fault.StoreFault.{StoreFault}
-use Rattle.ctr_disk.specs.declared.fault.StoreFault.TheVariants.{Fault}
-use Rattle.ctr_disk.specs.Crash.{StraysOnlyPast}
-use Rattle.ctr_disk.specs.Image.{Image, content, OtherFilesStay}
-use Rattle.ctr_bytes.specs.Fields.{spelled, field}
+use Rattle.ctr_home.specs.disk_Disk.{Ghosts}
+use Rattle.ctr_home.specs.disk_StoreFault.{StoreFault}
+use Rattle.ctr_home.specs.disk_StoreFault.TheVariants.{Fault}
+use Rattle.ctr_home.specs.disk_Crash.{StraysOnlyPast}
+use Rattle.ctr_home.specs.disk_Image.{Image, content, OtherFilesStay}
+use Rattle.ctr_home.specs.bytes_Fields.{spelled, field}
 
 -- a record in a batch: its length, and its bytes
 abbrev pub frame : List ℕ → List ℕ

@@ -1,6 +1,6 @@
 -- How an opening tells the errors of what it calls.
-use Rattle.ctr_disk.specs.declared.fault.StoreFault.{StoreFault}
-use Rattle.ctr_disk.specs.declared.fault.StoreFault.TheVariants as store
+use Rattle.ctr_home.specs.disk_StoreFault.{StoreFault}
+use Rattle.ctr_home.specs.disk_StoreFault.TheVariants as store
 use Rattle.ctr_log.specs.declared.reading.ReadError.{ReadError}
 use Rattle.ctr_log.specs.declared.reading.ReadError.TheVariants as read
 use Rattle.ctr_log.specs.declared.opening.OpenError.{OpenError}

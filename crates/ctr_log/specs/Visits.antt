@@ -2,10 +2,10 @@
 use Rattle.std.specs.Prelude.{◌≡◌, ◌==◌, ◌+◌, if◌then◌else◌, ℕ, zero, suc, List, [], ◌∷◌, ◌++◌, length, take, drop, slice_index, Result, Ok, Err, MatchResult}
 use Rattle.ctr_types.specs.declared.file.File.{File}
 use Rattle.ctr_types.specs.declared.memory.OutOfMemory.{OutOfMemory as WantOfMemory}
-use Rattle.ctr_disk.specs.Image.{Image, content}
-use Rattle.ctr_disk.specs.declared.fault.StoreFault.{StoreFault}
-use Rattle.ctr_disk.specs.declared.fault.StoreFault.TheVariants.{Fault, Damaged}
-use Rattle.ctr_bytes.specs.Fields.{field}
+use Rattle.ctr_home.specs.disk_Image.{Image, content}
+use Rattle.ctr_home.specs.disk_StoreFault.{StoreFault}
+use Rattle.ctr_home.specs.disk_StoreFault.TheVariants.{Fault, Damaged}
+use Rattle.ctr_home.specs.bytes_Fields.{field}
 use Rattle.ctr_log.specs.Reading.{log_file, ReadDiffers}
 use Rattle.ctr_log.specs.Kept.{log_in, other_file, has_newer}
 use Rattle.ctr_log.specs.declared.visitor.Visit.{Visit}

@@ -1,10 +1,10 @@
 // Reads a file of the log batch by batch. A batch is checked by itself as it is read, and then its
 // records are given to a visitor; so no more than a batch is held.
 ghost use Rattle.std.specs.Prelude.{◌≡◌, ◌⊎◌, ◌≤◌, ◌<◌, ◌+◌, ◌-◌, ◌^◌, [], ◌∷◌, ℕ, IsTrue, Ok, Err, length, drop, slice_index, IfOk, IfErr, MatchResult};
-ghost use Rattle.ctr_disk.specs.declared.fault.StoreFault.TheVariants.{Fault};
-ghost use Rattle.ctr_disk.specs.Image.{content, section};
-ghost use Rattle.ctr_disk.specs.Device.{WhereTold, OnlyReads, CountsAs};
-ghost use Rattle.ctr_bytes.specs.Fields.{field};
+ghost use Rattle.ctr_home.specs.disk_StoreFault.TheVariants.{Fault};
+ghost use Rattle.ctr_home.specs.disk_Image.{content, section};
+ghost use Rattle.ctr_home.specs.disk_Device.{WhereTold, OnlyReads, CountsAs};
+ghost use Rattle.ctr_home.specs.bytes_Fields.{field};
 ghost use Rattle.ctr_log.specs.declared.reading.ReadError.TheVariants.{Store, OutOfMemory as NoMemory};
 ghost use Rattle.ctr_log.specs.declared.visitor.VisitError.TheVariants.{Read};
 ghost use Rattle.ctr_home.specs.Checks.{check_of, judged};
@@ -20,9 +20,7 @@ use crate::damage::{at_least, at_most, same};
 use crate::log::Lsn;
 use crate::reading::{ReadError, next_frame};
 use crate::visitor::{VisitError, Visitor};
-use ctr_bytes::{get_u32, get_u64};
-use ctr_disk::{Disk, StoreFault};
-use ctr_home::judge;
+use ctr_home::{Disk, StoreFault, get_u32, get_u64, judge};
 use ctr_types::File;
 use std::alloc::Global;
 

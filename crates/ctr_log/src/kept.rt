@@ -1,9 +1,9 @@
 // Reads the log that is kept: the generation that the root names, and behind it the one in the other
 // file where that goes on from it.
 ghost use Rattle.std.specs.Prelude.{◌≡◌, IsTrue, ℕ, List, [], Result, IfOk, IfErr, OnOk, Ok, Err};
-ghost use Rattle.ctr_disk.specs.declared.fault.StoreFault.TheVariants.{Fault};
-ghost use Rattle.ctr_disk.specs.Image.{content};
-ghost use Rattle.ctr_disk.specs.Device.{WhereTold, OnlyReads, Counts, CountsAs};
+ghost use Rattle.ctr_home.specs.disk_StoreFault.TheVariants.{Fault};
+ghost use Rattle.ctr_home.specs.disk_Image.{content};
+ghost use Rattle.ctr_home.specs.disk_Device.{WhereTold, OnlyReads, Counts, CountsAs};
 ghost use Rattle.ctr_log.specs.declared.reading.ReadError.TheVariants.{Store};
 ghost use Rattle.ctr_log.specs.declared.visitor.VisitError.{VisitError};
 ghost use Rattle.ctr_log.specs.declared.visitor.VisitError.TheVariants.{Read};
@@ -16,9 +16,7 @@ use crate::batches::visit_file;
 use crate::log::{LogFile, Lsn, next_file};
 use crate::reading::ReadError;
 use crate::visitor::{VisitError, Visitor};
-use ctr_bytes::get_u64;
-use ctr_disk::{Disk, Failed, StoreFault};
-use ctr_home::Root;
+use ctr_home::{Disk, Failed, Root, StoreFault, get_u64};
 use ctr_types::{File, OutOfMemory};
 use std::alloc::Global;
 

@@ -2,7 +2,7 @@
 // dropped.
 ghost use Rattle.std.specs.Prelude.{◌≡◌, ℕ, false, List, Ok};
 ghost use Rattle.ctr_types.specs.declared.file.File.{File};
-ghost use Rattle.ctr_disk.specs.Image.{Image};
+ghost use Rattle.ctr_home.specs.disk_Image.{Image};
 ghost use Rattle.ctr_log.specs.Logs.{Log};
 ghost use Rattle.ctr_log.specs.Kept.{log_in, kept_log, Forgets};
 ghost use Rattle.ctr_log.specs.Visits.{file_visits, kept_visits, visit_bytes, AreInPlace, AreNumbered, IsFront};

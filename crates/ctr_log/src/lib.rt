@@ -12,6 +12,9 @@ mod opening;
 mod reading;
 mod visitor;
 
+pub use ctr_home::{
+    Block, Check, Home, Root, is_open, judge, read_home, read_root, write_home, write_root,
+};
 pub use gathered::Gathered;
 pub use kept::read_all;
 pub use laws::{sound_visits_are_first, the_newer_is_kept_alone, visits_are_the_log};

@@ -1,17 +1,16 @@
 // A file of the log and its writer: a batch is flushed whole or not at all.
 ghost use Rattle.std.specs.Prelude.{◌≡◌, ◌≢◌, ◌≤◌, ◌<◌, ◌↔◌, false, slice_index, ◌+◌, ◌-◌, ◌^◌, IsTrue, ℕ, List, [], ◌∷◌, ◌++◌, length, take, drop, vec_len, vec_capacity, Err, IfOk, OnOk, OnErr};
 ghost use Rattle.ctr_types.specs.declared.file.File.TheVariants.{LogA};
-ghost use Rattle.ctr_disk.specs.declared.fault.StoreFault.TheVariants.{Fault};
-ghost use Rattle.ctr_disk.specs.Image.{Image, content, OtherFilesStay};
+ghost use Rattle.ctr_home.specs.disk_StoreFault.TheVariants.{Fault};
+ghost use Rattle.ctr_home.specs.disk_Image.{Image, content, OtherFilesStay};
 ghost use Rattle.ctr_types.specs.Faults.{HasCause};
-ghost use Rattle.ctr_disk.specs.Device.{WhereTold, LeavesOnly, IsDurable, IsSettled, OnlyReads, Counts, CountsAs};
+ghost use Rattle.ctr_home.specs.disk_Device.{WhereTold, LeavesOnly, IsDurable, IsSettled, OnlyReads, Counts, CountsAs};
 ghost use Rattle.ctr_log.specs.Reading.{IsEmptyAt};
 ghost use Rattle.ctr_log.specs.Logs.{Batches, headed, sealed, frame, frames, records, HasLog, HasBatches, GoesOn, next_place, Extends, IsBeforeOrAfter, IsAfter, IsFlushing, IsEmptied, CountsFlush, with_batch};
 ghost use Rattle.ctr_log.specs.declared.log.TheConstants.{MOST};
 ghost use Rattle.ctr_log.specs.Kept.{next_file, StaysDropped, CanStart, CanBegin, IsStarted, KeepsWriter, BeginsFile, HoldsPrefix, GoesOnBehind, WritesBehind, KeepsPrefix, GoesOnWith};
 
-use ctr_bytes::{put_u32, put_u64};
-use ctr_disk::{Disk, Failed, StoreFault, write_through};
+use ctr_home::{Disk, Failed, StoreFault, put_u32, put_u64, write_through};
 use ctr_types::{File, OutOfMemory};
 use std::alloc::{AllocError, Global};
 use std::marker::Model;

@@ -1,10 +1,10 @@
 // Makes the logs of a new database.
 ghost use Rattle.std.specs.Prelude.{OnOk};
-ghost use Rattle.ctr_disk.specs.Device.{WhereTold, LeavesOnly, IsDurable, IsSettled, Counts};
+ghost use Rattle.ctr_home.specs.disk_Device.{WhereTold, LeavesOnly, IsDurable, IsSettled, Counts};
 ghost use Rattle.ctr_log.specs.Fresh.{LogsAreReady, AreEmptied, SameRoot};
 
 use crate::log::write_batch;
-use ctr_disk::{Disk, Failed};
+use ctr_home::{Disk, Failed};
 use ctr_types::File;
 
 /// The log of a new database behind its first gate: one batch of one record, the checkpoint of

@@ -4,7 +4,7 @@ ghost use Rattle.ctr_log.specs.Opening.{fault_told, read_told};
 ghost use Rattle.ctr_log.specs.declared.opening.OpenError.TheVariants.{Fault, OutOfMemory as NoMemory};
 
 use crate::ReadError;
-use ctr_disk::{Failed, StoreFault};
+use ctr_home::{Failed, StoreFault};
 use ctr_types::{Damage, OutOfMemory};
 
 /// A disk couldn't be opened.

@@ -1,6 +1,6 @@
 // A frame of the log, and how reading ends early.
 ghost use Rattle.std.specs.Prelude.{◌≡◌, ◌++◌, Ok, Err, MatchResult};
-ghost use Rattle.ctr_disk.specs.declared.fault.StoreFault.TheVariants.{Fault};
+ghost use Rattle.ctr_home.specs.disk_StoreFault.TheVariants.{Fault};
 ghost use Rattle.ctr_log.specs.declared.reading.ReadError.TheVariants.{Store};
 ghost use Rattle.ctr_home.specs.Checks.{judged};
 ghost use Rattle.ctr_log.specs.Damage.{IsDamageOf};
@@ -9,9 +9,7 @@ ghost use Rattle.ctr_log.specs.Reading.{BeginsWithFrame};
 ghost use Rattle.ctr_log.specs.LogChecks.{frame_check};
 
 use crate::damage::{at_least, at_most};
-use ctr_bytes::get_u64;
-use ctr_disk::{Failed, StoreFault};
-use ctr_home::judge;
+use ctr_home::{Failed, StoreFault, get_u64, judge};
 use ctr_types::{File, OutOfMemory};
 use std::alloc::{AllocError, AllocFailed, Global};
 

@@ -5,7 +5,7 @@ ghost use Rattle.ctr_log.specs.Visits.{visit_of, IsGiven};
 
 use crate::log::Lsn;
 use crate::reading::ReadError;
-use ctr_disk::{Failed, StoreFault};
+use ctr_home::{Failed, StoreFault};
 use ctr_types::{File, OutOfMemory, Text};
 use std::alloc::AllocError;
 
@@ -57,7 +57,7 @@ impl<E> From<ReadError> for VisitError<E> {
 }
 
 impl<E> From<Failed> for VisitError<E> {
-    ghost use Rattle.ctr_disk.specs.declared.fault.StoreFault.TheVariants.{Fault};
+    ghost use Rattle.ctr_home.specs.disk_StoreFault.TheVariants.{Fault};
     ghost use Rattle.ctr_log.specs.declared.reading.ReadError.TheVariants.{Store};
     ghost use Rattle.ctr_log.specs.declared.visitor.VisitError.TheVariants.{Read};
 

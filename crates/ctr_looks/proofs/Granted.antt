@@ -29,19 +29,19 @@ use Rattle.ctr_page.specs.declared.header.Header.{Header}
 use Rattle.ctr_area.specs.Areas.{Title}
 use Rattle.ctr_area.specs.Sound.{IsAmong}
 use Rattle.ctr_record_effects.specs.States.{area_in}
-use Rattle.ctr_actions.specs.Facts.{Fact, HasBlank, HasTable, HoldsFact, IsOpen, HasNoPageBut}
-use Rattle.ctr_actions.specs.Sites.{site_of}
+use Rattle.ctr_session_world.specs.actions_Facts.{Fact, HasBlank, HasTable, HoldsFact, IsOpen, HasNoPageBut}
+use Rattle.ctr_wishes.specs.actions_Sites.{site_of}
 use Rattle.ctr_store.specs.Store.{View}
 use Rattle.ctr_session_world.proofs.ctr_told.ctr_extend.Carrying.{live_state}
 use Rattle.ctr_locks.specs.Held.{LocksOfSession, held_by_session, locks_key, session_locks, session_uses, uses_name}
 use Rattle.ctr_locks.specs.Shows.{LockLeavesLocks, ShowsKeyLocks, UseLeavesLocks}
-use Rattle.ctr_kept.specs.Carried.{IsUnderLock}
-use Rattle.ctr_kept.specs.Tables.{AreTables}
-use Rattle.ctr_kept.specs.Walk.{Mind, with_facts}
-use Rattle.ctr_kept.specs.Turns.{Start, Carries, InTransaction, carrying, entry_of, state_now}
-use Rattle.ctr_kept.proofs.Tables.{uses_more}
-use Rattle.ctr_stops.specs.World.{KeepsWorld}
-use Rattle.ctr_txn.specs.Held.{TxnsHeld, run_of}
+use Rattle.ctr_session_world.specs.kept_Carried.{IsUnderLock}
+use Rattle.ctr_session_world.specs.kept_Tables.{AreTables}
+use Rattle.ctr_session_world.specs.kept_Walk.{Mind, with_facts}
+use Rattle.ctr_session_world.specs.kept_Turns.{Start, Carries, InTransaction, carrying, entry_of, state_now}
+use Rattle.ctr_session_world.proofs.kept_Tables.{uses_more}
+use Rattle.ctr_session_world.specs.stops_World.{KeepsWorld}
+use Rattle.ctr_session_world.specs.txn_Held.{TxnsHeld, run_of}
 use Rattle.ctr_session_world.specs.ctr_told.Turning.{facts_idle, IsIdle}
 use Rattle.ctr_session_world.proofs.ctr_told.Idle.{carried_more, idle_blanks, idle_more, idle_none, idle_open}
 use Rattle.ctr_looks.specs.declared.taking.RowAt.{RowAt}

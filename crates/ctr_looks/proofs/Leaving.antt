@@ -6,7 +6,7 @@ use Rattle.ctr_disk.specs.Image.{Image}
 use Rattle.ctr_disk.specs.declared.fault.StoreFault.{StoreFault}
 use Rattle.ctr_disk.specs.declared.fault.StoreFault.TheVariants.{Fault}
 use Rattle.ctr_store.specs.Store.{View, LeavesPage}
-use Rattle.ctr_walk.specs.Damage.{ReadsPages}
+use Rattle.ctr_asking.specs.walk_Damage.{ReadsPages}
 use Rattle.ctr_session_world.specs.Ready.{LeavesDisk, Front}
 use Rattle.ctr_session_world.proofs.Disks.{disk_failed, disk_read, disk_roomy}
 use Rattle.ctr_session_world.proofs.Faults.{fault_none, fault_then}

@@ -17,10 +17,10 @@ use Rattle.ctr_versions.proofs.Written.{int_itself, same_itself}
 use Rattle.ctr_area.specs.Areas.{Title}
 use Rattle.ctr_area.specs.Sound.{IsAmong}
 use Rattle.ctr_record_effects.specs.States.{area_in}
-use Rattle.ctr_actions.specs.Facts.{HasTable}
+use Rattle.ctr_session_world.specs.actions_Facts.{HasTable}
 use Rattle.ctr_store.specs.Store.{View}
-use Rattle.ctr_kept.specs.Walk.{Mind}
-use Rattle.ctr_kept.specs.Turns.{Start, entry_of, state_now}
+use Rattle.ctr_session_world.specs.kept_Walk.{Mind}
+use Rattle.ctr_session_world.specs.kept_Turns.{Start, entry_of, state_now}
 use Rattle.ctr_wishes.specs.declared.making.Prepared.{Prepared}
 use Rattle.ctr_wishes.specs.Models.{IsModels}
 use Rattle.ctr_looks.specs.declared.taking.RowAt.{RowAt}

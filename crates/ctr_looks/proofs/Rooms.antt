@@ -8,9 +8,9 @@ use Rattle.std.proofs.lemmas.Bool.{false≢true}
 use Rattle.ctr_disk.specs.declared.disk.Disk.{Ghosts}
 use Rattle.ctr_meta.specs.Kept.{TablesKept}
 use Rattle.ctr_store.specs.Store.{View}
-use Rattle.ctr_paged.specs.Paged.{Run}
+use Rattle.ctr_session_world.specs.paged_Paged.{Run}
 use Rattle.ctr_versions.specs.Engine.{SessionHeld}
-use Rattle.ctr_txn.specs.Held.{TxnHeld, TxnsHeld, run_of, txn_of}
+use Rattle.ctr_session_world.specs.txn_Held.{TxnHeld, TxnsHeld, run_of, txn_of}
 use Rattle.ctr_asking.specs.Asking.{IsInside}
 use Rattle.ctr_session_world.proofs.Standing.{RunFinds, some_of}
 use Rattle.ctr_looks.specs.Granting.{HasNumber}

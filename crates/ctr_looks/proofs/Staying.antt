@@ -7,14 +7,14 @@ use Rattle.ctr_area.specs.Images.{is_live}
 use Rattle.ctr_redo.specs.States.{State as Stored}
 use Rattle.ctr_record_effects.specs.States.{area_in}
 use Rattle.ctr_names.specs.Search.{IsEntryFound}
-use Rattle.ctr_actions.specs.Facts.{Fact}
-use Rattle.ctr_actions.specs.Sites.{site_of}
+use Rattle.ctr_session_world.specs.actions_Facts.{Fact}
+use Rattle.ctr_wishes.specs.actions_Sites.{site_of}
 use Rattle.ctr_versions.specs.Engine.{SessionHeld}
 use Rattle.ctr_store.specs.Store.{View}
 use Rattle.ctr_locks.specs.Shows.{IsOnlyEntry}
-use Rattle.ctr_kept.specs.Turns.{Start}
-use Rattle.ctr_stops.specs.World.{KeepsWorld}
-use Rattle.ctr_page_turns.specs.Turns.{RestsBehind}
+use Rattle.ctr_session_world.specs.kept_Turns.{Start}
+use Rattle.ctr_session_world.specs.stops_World.{KeepsWorld}
+use Rattle.ctr_session_world.specs.page_turns_Turns.{RestsBehind}
 use Rattle.ctr_asking.specs.Asking.{sees_for}
 use Rattle.ctr_asking.specs.declared.asker.Answer.TheVariants.{Free}
 use Rattle.ctr_session_world.specs.World.{SessionsHeld, names_in}

@@ -17,7 +17,7 @@ use Rattle.ctr_model.specs.Tape.{acts_of}
 use Rattle.ctr_legal.proofs.Keep.{all_none}
 use Rattle.ctr_versions.proofs.Keys.{known, some_is}
 use Rattle.ctr_store.specs.Store.{View}
-use Rattle.ctr_kept.specs.Turns.{Start}
+use Rattle.ctr_session_world.specs.kept_Turns.{Start}
 use Rattle.ctr_asking.specs.Asking.{IsInCatalog}
 use Rattle.ctr_asking.specs.declared.asker.Answer.TheVariants.{Free}
 use Rattle.ctr_session_world.specs.Told.{IsNextOf}

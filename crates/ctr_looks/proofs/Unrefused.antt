@@ -17,11 +17,11 @@ use Rattle.ctr_model.specs.Tape.{Allowed, IsInTurn}
 use Rattle.ctr_versions.specs.Engine.{IsCalm}
 use Rattle.ctr_versions.proofs.Keys.{known}
 use Rattle.ctr_legal.specs.Ready.{IsReady}
-use Rattle.ctr_actions.specs.Sites.{Site, site_of}
+use Rattle.ctr_wishes.specs.actions_Sites.{Site, site_of}
 use Rattle.ctr_store.specs.Store.{View}
-use Rattle.ctr_kept.specs.Turns.{Start, InTransaction, KeepsRun, MayCome, Telling, state_now}
-use Rattle.ctr_kept.specs.Walk.{Mind}
-use Rattle.ctr_kept.proofs.Walking.{keeps_reached}
+use Rattle.ctr_session_world.specs.kept_Turns.{Start, InTransaction, KeepsRun, MayCome, Telling, state_now}
+use Rattle.ctr_session_world.specs.kept_Walk.{Mind}
+use Rattle.ctr_session_world.proofs.kept_Walking.{keeps_reached}
 use Rattle.ctr_session_world.proofs.ctr_told.Acting.{is_ready}
 use Rattle.ctr_session_world.specs.World.{SessionsHeld}
 use Rattle.ctr_session_world.specs.Told.{IsNextOf}

@@ -14,16 +14,16 @@ use Rattle.ctr_area.specs.Areas.{Title}
 use Rattle.ctr_area.specs.Images.{is_live}
 use Rattle.ctr_area.specs.Sound.{IsAmong}
 use Rattle.ctr_record_effects.specs.States.{area_in}
-use Rattle.ctr_actions.specs.Actions.{Begins}
-use Rattle.ctr_actions.specs.Facts.{Fact, HasTable}
+use Rattle.ctr_wishes.specs.actions_Actions.{Begins}
+use Rattle.ctr_session_world.specs.actions_Facts.{Fact, HasTable}
 use Rattle.ctr_store.specs.Store.{View}
-use Rattle.ctr_kept.specs.Turns.{Start, InTransaction, state_now}
-use Rattle.ctr_page_turns.specs.Acts.{ActsBy}
-use Rattle.ctr_page_turns.specs.Turns.{LogsAtRest, RestsBehind}
-use Rattle.ctr_paged.specs.Moving.{held_as}
+use Rattle.ctr_session_world.specs.kept_Turns.{Start, InTransaction, state_now}
+use Rattle.ctr_session_world.specs.page_turns_Acts.{ActsBy}
+use Rattle.ctr_session_world.specs.page_turns_Turns.{LogsAtRest, RestsBehind}
+use Rattle.ctr_session_world.specs.paged_Moving.{held_as}
 use Rattle.ctr_locks.specs.Held.{LocksOfSession, LocksEntryKey, OfSession, SameHeld, UsesName}
 use Rattle.ctr_locks.specs.Shows.{IsOnlyEntry}
-use Rattle.ctr_txn.specs.Held.{TxnHeld, TxnsHeld, run_of, txn_of}
+use Rattle.ctr_session_world.specs.txn_Held.{TxnHeld, TxnsHeld, run_of, txn_of}
 use Rattle.ctr_looks.specs.declared.taking.RowAt.{RowAt}
 use Rattle.ctr_session_world.specs.World.{SessionsHeld, names_in}
 use Rattle.ctr_session_world.specs.Told.{IsNextOf}

@@ -11,14 +11,14 @@ use Rattle.ctr_model.specs.Refusals.{changes_schema, creates, has_lock, key_writ
 use Rattle.ctr_model.specs.State.{has_name, transaction_of, view}
 use Rattle.ctr_area.specs.Areas.{Title}
 use Rattle.ctr_area.specs.Sound.{IsAmong}
-use Rattle.ctr_actions.specs.Facts.{Fact, HasTable}
-use Rattle.ctr_chain.specs.declared.view.ReadRefusal.{ReadRefusal}
-use Rattle.ctr_chain.specs.declared.view.ReadRefusal.TheVariants as unread
-use Rattle.ctr_kept.specs.Walk.{Mind}
-use Rattle.ctr_kept.specs.Turns.{Start, state_now}
+use Rattle.ctr_session_world.specs.actions_Facts.{Fact, HasTable}
+use Rattle.ctr_wishes.specs.chain_ReadRefusal.{ReadRefusal}
+use Rattle.ctr_wishes.specs.chain_ReadRefusal.TheVariants as unread
+use Rattle.ctr_session_world.specs.kept_Walk.{Mind}
+use Rattle.ctr_session_world.specs.kept_Turns.{Start, state_now}
 use Rattle.ctr_wishes.specs.declared.making.Prepared.{Prepared}
 use Rattle.ctr_wishes.specs.Models.{IsModels}
-use Rattle.ctr_txn.specs.Held.{TxnsHeld}
+use Rattle.ctr_session_world.specs.txn_Held.{TxnsHeld}
 use Rattle.ctr_looks.specs.Granting.{HasItem}
 use Rattle.ctr_looks.specs.declared.locking.Locked.{Locked}
 use Rattle.ctr_looks.specs.declared.locking.Locked.TheVariants.{Refused, Granted}

@@ -3,21 +3,21 @@ ghost use Rattle.std.specs.Prelude.{◌≡◌, ◌<◌, false, OnOk, IfErr};
 ghost use Rattle.ctr_disk.specs.declared.fault.StoreFault.TheVariants.{Fault};
 ghost use Rattle.ctr_record_effects.specs.Standing.{IsDatabaseState};
 ghost use Rattle.ctr_base.specs.Base.{WhereSound};
-ghost use Rattle.ctr_txn.specs.Held.{IsReading};
-ghost use Rattle.ctr_txn.specs.Calls.{MayDraw};
-ghost use Rattle.ctr_txn.specs.Rooms.{HasItemRoom};
+ghost use Rattle.ctr_session_world.specs.txn_Held.{IsReading};
+ghost use Rattle.ctr_session_world.specs.txn_Calls.{MayDraw};
+ghost use Rattle.ctr_session_world.specs.txn_Rooms.{HasItemRoom};
 ghost use Rattle.ctr_asking.specs.Asking.{IsInside};
 ghost use Rattle.ctr_session_world.specs.Ready.{LeavesOver, StandOver, LeavesDisk};
 ghost use Rattle.ctr_looks.specs.Granting.{DrawsNext, HasNumber, HasItem};
 
-use ctr_actions::an_action_meets_its_needs;
 use ctr_base::Origin;
 use ctr_disk::{Disk, StoreFault};
-use ctr_page_turns::a_record_acts;
-use ctr_passed::records_without_bytes_lie_as_their_actions;
 use ctr_record_laws::pages_are_in_bounds;
+use ctr_session_world::{
+    Txns, a_record_acts, records_without_bytes_lie_as_their_actions, the_run_is_of_the_sessions,
+};
 use ctr_store::Store;
-use ctr_txn::{Txns, the_run_is_of_the_sessions};
+use ctr_wishes::an_action_meets_its_needs;
 
 // Of a session that has none.
 fn draw_next<D: Disk, O: Origin>(

@@ -5,9 +5,9 @@ ghost use Rattle.ctr_disk.specs.declared.fault.StoreFault.TheVariants.{Fault};
 ghost use Rattle.ctr_model.specs.Refusals.{key_written};
 ghost use Rattle.ctr_base.specs.Base.{WhereSound};
 ghost use Rattle.ctr_record_effects.specs.Standing.{IsDatabaseState};
-ghost use Rattle.ctr_actions.specs.Facts.{Fact};
-ghost use Rattle.ctr_kept.specs.Turns.{Start, state_now};
-ghost use Rattle.ctr_txn.specs.Held.{TxnsHeld};
+ghost use Rattle.ctr_session_world.specs.actions_Facts.{Fact};
+ghost use Rattle.ctr_session_world.specs.kept_Turns.{Start, state_now};
+ghost use Rattle.ctr_session_world.specs.txn_Held.{TxnsHeld};
 ghost use Rattle.ctr_session_world.specs.ctr_told.Turning.{IsIdle};
 ghost use Rattle.ctr_asking.specs.Asking.{IsInside};
 ghost use Rattle.ctr_session_world.specs.Ready.{LeavesOver, MayTurn, LeavesDisk};
@@ -25,18 +25,16 @@ use crate::refusing::ask_act;
 use crate::taking::RowAt;
 use ctr_asking::{Answer, Asker, me_of};
 use ctr_base::Origin;
-use ctr_chain::ReadRefusal;
 use ctr_disk::{Disk, StoreFault};
 use ctr_locks::KeyLocks;
-use ctr_page_turns::room_is_still_there;
-use ctr_session_world::pages_that_are_read_keep_a_world;
+use ctr_session_world::{Txns, pages_that_are_read_keep_a_world, room_is_still_there};
 use ctr_statement::{key_written, table_of};
 use ctr_store::Store;
-use ctr_txn::Txns;
 use ctr_types::{Act, List, Name, Refusal, Statement};
 use ctr_wishes::reading::Sight;
 use ctr_wishes::{
-    Prepared, prepare, what_is_prepared_is_the_models, what_is_prepared_stays_the_models,
+    Prepared, ReadRefusal, prepare, what_is_prepared_is_the_models,
+    what_is_prepared_stays_the_models,
 };
 use std::alloc::Global;
 

@@ -4,9 +4,9 @@ ghost use Rattle.ctr_disk.specs.declared.fault.StoreFault.TheVariants.{Fault};
 ghost use Rattle.ctr_model.specs.Refusals.{table_of};
 ghost use Rattle.ctr_base.specs.Base.{WhereSound};
 ghost use Rattle.ctr_record_effects.specs.Standing.{IsDatabaseState};
-ghost use Rattle.ctr_walk.specs.Damage.{ReadsPages};
+ghost use Rattle.ctr_asking.specs.walk_Damage.{ReadsPages};
 ghost use Rattle.ctr_store.specs.Store.{View};
-ghost use Rattle.ctr_kept.specs.Turns.{Start, state_now};
+ghost use Rattle.ctr_session_world.specs.kept_Turns.{Start, state_now};
 ghost use Rattle.ctr_asking.specs.Asking.{IsInside, IsInCatalog};
 ghost use Rattle.ctr_session_world.specs.Ready.{MayTurn};
 ghost use Rattle.ctr_session_world.specs.Told.{IsNextOf};
@@ -16,9 +16,8 @@ use crate::laws::a_session_in_a_world_may_look;
 use ctr_asking::{Answer, Asker, a_table_that_is_free_is_undropped, ask};
 use ctr_base::Origin;
 use ctr_disk::{Disk, StoreFault};
-use ctr_kept::who_rolls_back_is_at_its_rollback;
+use ctr_session_world::{the_run_is_of_the_sessions, who_rolls_back_is_at_its_rollback};
 use ctr_store::Store;
-use ctr_txn::the_run_is_of_the_sessions;
 use ctr_types::{Act, Refusal, Statement};
 
 /// Why a Lock or a Read of a session's next statement is refused, or that nothing speaks against it. It reads pages, and takes no memory.

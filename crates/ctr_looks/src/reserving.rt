@@ -1,9 +1,9 @@
 // Room that is taken before a Lock is granted, so that nothing behind it may be refused for want of memory.
 ghost use Rattle.std.specs.Prelude.{◌≡◌, false, OnOk};
-ghost use Rattle.ctr_walk.specs.OneRecord.{HasRoomForOne};
+ghost use Rattle.ctr_session_world.specs.walk_OneRecord.{HasRoomForOne};
 ghost use Rattle.ctr_locks.specs.Held.{OfSession, SameHeld, HasRoomForKey, HasRoomForName, held_by_session};
-ghost use Rattle.ctr_txn.specs.Held.{IsReading, run_of};
-ghost use Rattle.ctr_txn.specs.Calls.{MayDraw, IsOverStore};
+ghost use Rattle.ctr_session_world.specs.txn_Held.{IsReading, run_of};
+ghost use Rattle.ctr_session_world.specs.txn_Calls.{MayDraw, IsOverStore};
 ghost use Rattle.ctr_asking.specs.Asking.{IsInside};
 ghost use Rattle.ctr_session_world.specs.Ready.{LeavesReady, StandOver, StaysUnasked};
 ghost use Rattle.ctr_looks.specs.Granting.{HasItem};
@@ -12,8 +12,8 @@ use crate::taking::RowAt;
 use ctr_base::Origin;
 use ctr_disk::Disk;
 use ctr_locks::KeyLocks;
+use ctr_session_world::{Txns, the_run_is_of_the_sessions};
 use ctr_store::Store;
-use ctr_txn::{Txns, the_run_is_of_the_sessions};
 use ctr_types::OutOfMemory;
 use std::alloc::Global;
 

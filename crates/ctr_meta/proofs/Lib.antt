@@ -5,3 +5,4 @@ pub mod NeedLaws
 pub mod ListingLaws
 pub mod ListedFits
 pub mod LastLaws
+pub use Rattle.ctr_rec.proofs.MemberLaws as rec_MemberLaws

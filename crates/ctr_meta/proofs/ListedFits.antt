@@ -2,7 +2,7 @@
 use Rattle.std.proofs.Common.{◌≡◌, ◌≢◌, ⊎_elim, ℕ, zero, suc, ◌+◌, ◌*◌, ◌<◌, ◌≤◌, Bool, true, false, cond, List, [], ◌∷◌, ◌++◌, length, refl, sym, ap, subst, ◌∙◌, arith}
 use Rattle.std.specs.List.{AllByRecursion}
 use Rattle.std.proofs.lemmas.Bool.Decides.{eqb_tells}
-use Rattle.ctr_bytes.specs.Fields.{field}
+use Rattle.ctr_rec.specs.bytes_Fields.{field}
 use Rattle.ctr_rec.specs.declared.record.SlogItem.{SlogItem}
 use Rattle.ctr_rec.specs.Members.{among, AreNew, HasMembers, MembersFit, ItemFits, pairs_from, items_from, behind_pairs, slog_at, opens_listed, aborted_listed, items_listed}
 use Rattle.ctr_rec.proofs.Listed.{Listed, listed_members}

@@ -1,7 +1,7 @@
 -- Reading lists, one member after another.
 use Rattle.std.proofs.Common.{◌≡◌, ℕ, zero, suc, ◌+◌, ◌*◌, ◌<◌, ◌-◌, false, List, [], ◌∷◌, ◌++◌, refl, sym, ap, subst, ◌∙◌, arith}
 use Rattle.std.specs.List.{AllByRecursion}
-use Rattle.ctr_bytes.specs.Fields.{field}
+use Rattle.ctr_rec.specs.bytes_Fields.{field}
 use Rattle.ctr_rec.specs.declared.record.SlogItem.{SlogItem}
 use Rattle.ctr_rec.specs.Members.{pairs_from, slog_item, items_from, ItemFits}
 use Rattle.ctr_meta.specs.Tables.{is_in}

@@ -3,12 +3,12 @@ use Rattle.std.proofs.Common.{◌≡◌, ◌≢◌, ⊎_elim, ℕ, ◌+◌, ◌<
 use Rattle.std.specs.Prelude.{unwrap_or}
 use Rattle.std.proofs.lemmas.Bool.{lt-ltb}
 use Rattle.std.proofs.lemmas.Bool.Decides.{eqb_tells}
-use Rattle.ctr_bytes.specs.Following.{◌>>=◌}
+use Rattle.ctr_rec.specs.bytes_Following.{◌>>=◌}
 use Rattle.ctr_rec.specs.Spelling.{checkpoint_bytes}
 use Rattle.ctr_rec.specs.Checkpoint.{each, items_in, items_at, end_at, kinds_in, end_check, kind_check, item_check, list_checks, checkpoint_checks}
 use Rattle.ctr_rec.specs.Damage.{expect}
 use Rattle.std.specs.Prelude.{length}
-use Rattle.ctr_bytes.specs.Fields.{field}
+use Rattle.ctr_rec.specs.bytes_Fields.{field}
 use Rattle.ctr_rec.proofs.Reading.{bind_ok}
 use Rattle.ctr_rec.proofs.ListLaws.{checkpoint_next}
 use Rattle.ctr_meta.specs.Tables.{Tables, is_in, heads_in, heads_of, with_heads}

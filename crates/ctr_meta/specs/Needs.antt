@@ -5,7 +5,7 @@ use Rattle.std.specs.List.{list_any}
 use Rattle.ctr_rec.specs.declared.record.Record.{Record}
 use Rattle.ctr_rec.specs.declared.record.Record.TheVariants.{Checkpoint, Begin, Commit, Abort, Forget, Alloc, Format, Link, Free, Unlink, Create, Uncreate, Drop, Undrop, Row, Keep, Revert, Trim}
 use Rattle.ctr_rec.specs.declared.decoding.BadRecord.{BadRecord}
-use Rattle.ctr_bytes.specs.Following.{◌>>=◌}
+use Rattle.ctr_rec.specs.bytes_Following.{◌>>=◌}
 use Rattle.ctr_rec.specs.Damage.{expect}
 use Rattle.ctr_rec.specs.Spelling.{checkpoint_bytes}
 use Rattle.ctr_rec.specs.Checkpoint.{each, opens_in, aborted_in, next_check, heads_check, xid_check}

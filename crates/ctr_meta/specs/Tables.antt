@@ -1,8 +1,8 @@
 -- The tables of an image: what the records of its log leave of transactions.
 use Rattle.std.specs.Prelude.{ℕ, Bool, List, [], Option, is_some, unwrap_or, nat_eq, nat_lt, if◌then◌else◌}
 use Rattle.std.specs.Map.{lookup, remove_entry, set_value}
-use Rattle.ctr_types.specs.declared.xid.Fate.{Fate}
-use Rattle.ctr_types.specs.declared.xid.Fate.TheVariants.{Open, Aborted, Committed, Later}
+use Rattle.ctr_snap.specs.types_Fate.{Fate}
+use Rattle.ctr_snap.specs.types_Fate.TheVariants.{Open, Aborted, Committed, Later}
 use Rattle.ctr_rec.specs.declared.record.SlogItem.{SlogItem}
 
 -- The next transaction; those that are open, and those in the aborted transaction map, each with

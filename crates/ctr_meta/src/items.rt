@@ -5,8 +5,7 @@ ghost use Rattle.ctr_rec.specs.declared.record.SlogItem.{SlogItem as Item};
 ghost use Rattle.ctr_rec.specs.Members.{ItemFits};
 ghost use Rattle.ctr_meta.specs.Items.{is_alloc_by, is_schema_by, is_item_by, is_wanted, left_out};
 
-use ctr_rec::{PageNo, SlogItem};
-use ctr_types::Xid;
+use ctr_rec::{PageNo, SlogItem, Xid};
 
 /// Which item a record speaks of.
 #[derive(Clone, Copy, Debug, PartialEq, Eq)]

@@ -9,6 +9,7 @@ mod room;
 mod seen;
 mod xids;
 
+pub use ctr_rec::{Bytes, Overlay, PageNo};
 pub use items::Wanted;
 pub use meta::Meta;
 pub use room::{Room, room_for, tables_fold, xids_last};

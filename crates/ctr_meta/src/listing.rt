@@ -1,6 +1,6 @@
 // Reading the lists of a Checkpoint.
 ghost use Rattle.std.specs.Prelude.{◌≡◌, ◌≤◌, ◌<◌, ◌+◌, ◌*◌, ◌^◌, [], length, vec_len, vec_capacity};
-ghost use Rattle.ctr_bytes.specs.Fields.{field};
+ghost use Rattle.ctr_rec.specs.bytes_Fields.{field};
 ghost use Rattle.std.specs.List.{AllByRecursion};
 ghost use Rattle.ctr_rec.specs.Members.{pairs_from, slog_item, items_from, ItemFits, HasMembers, items_listed};
 ghost use Rattle.ctr_meta.specs.Kept.{EachOnce, XidsFit};
@@ -8,9 +8,7 @@ ghost use Rattle.ctr_meta.specs.Effects.{listed};
 ghost use Rattle.ctr_meta.specs.Lists.{CountsMembers};
 
 use crate::xids::Xids;
-use ctr_bytes::{get_u8, get_u32, get_u64};
-use ctr_rec::SlogItem;
-use ctr_types::Xid;
+use ctr_rec::{SlogItem, Xid, get_u8, get_u32, get_u64};
 
 /// How many members the lists have.
 #[derive(Clone, Copy, Debug)]

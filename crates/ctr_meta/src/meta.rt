@@ -15,8 +15,7 @@ use crate::items::{allocs_by, has_wanted, items_by, latest_by, settle, take_out}
 use crate::listing::{counts_in, read_items, read_pairs};
 use crate::needs::{expect, there};
 use crate::xids::Xids;
-use ctr_rec::{BadRecord, Record, SlogItem};
-use ctr_types::{Fate, OutOfMemory, Xid};
+use ctr_rec::{BadRecord, Fate, OutOfMemory, Record, SlogItem, Xid};
 use std::alloc::Global;
 use std::marker::Model;
 

@@ -7,8 +7,8 @@ ghost use Rattle.ctr_snap.specs.Seeing.{is_committed as has_committed};
 ghost use Rattle.ctr_meta.specs.Seen.{xid_is_seen, xid_is_changed};
 
 use crate::Meta;
+use ctr_rec::{Fate, Xid};
 use ctr_snap::Snapshot;
-use ctr_types::{Fate, Xid};
 
 /// Whether a session sees what a transaction did: its own (`me`), or one that is committed, was drawn before the snapshot and isn't in its
 /// list. It sees nothing of 0, which is nobody.

@@ -3,7 +3,7 @@ ghost use Rattle.std.specs.Prelude.{◌≡◌, ◌≤◌, ◌<◌, ◌+◌, ◌^
 ghost use Rattle.ctr_snap.specs.Seeing.{least};
 ghost use Rattle.ctr_meta.specs.Tables.{heads_at, is_in, heads_in, without_xid, with_heads};
 
-use ctr_types::{OutOfMemory, Xid};
+use ctr_rec::{OutOfMemory, Xid};
 use indexmap::IndexMap;
 use indexmap::map::Slice;
 use std::alloc::Global;

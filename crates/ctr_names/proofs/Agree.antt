@@ -4,17 +4,17 @@ use Rattle.std.specs.FinMap.Entries.{put}
 use Rattle.std.specs.List.{filter}
 use Rattle.std.specs.Prelude.{◌&&◌, ◌||◌}
 use Rattle.std.proofs.lemmas.Bool.{and_parts, cases_lt, eq-eqb, eqb-true, false≢true}
-use Rattle.ctr_model.specs.Database.{name_cmp}
-use Rattle.ctr_model.specs.State.{same_name}
-use Rattle.ctr_versions.specs.Versions.{Made}
-use Rattle.ctr_versions.proofs.Keys.{known}
-use Rattle.ctr_rec.specs.declared.record.SlogItem.TheVariants.{DropOf}
-use Rattle.ctr_meta.specs.Effects.{committed, forgotten_by, opened_by, rolled_back}
-use Rattle.ctr_meta.specs.Tables.{Tables, is_in}
-use Rattle.ctr_area.specs.Areas.{Area, Title, no_pages}
-use Rattle.ctr_area.specs.Changes.{ChangesEntry, with_title}
-use Rattle.ctr_area.specs.Images.{all_numbered, entry_numbers, is_committed_in, is_dropped_later, is_live, is_named_so, is_newer, name_chain, name_versions, names_gathered, newest_first, rows_of_entry, versions_in}
-use Rattle.ctr_area.specs.Sound.{IsAmong, IsSoundArea, xids_in}
+use Rattle.ctr_record_laws.specs.model_Database.{name_cmp}
+use Rattle.ctr_record_laws.specs.model_State.{same_name}
+use Rattle.ctr_record_laws.specs.versions_Versions.{Made}
+use Rattle.ctr_record_laws.proofs.versions_Keys.{known}
+use Rattle.ctr_record_laws.specs.rec_SlogItem.TheVariants.{DropOf}
+use Rattle.ctr_record_laws.specs.meta_Effects.{committed, forgotten_by, opened_by, rolled_back}
+use Rattle.ctr_record_laws.specs.meta_Tables.{Tables, is_in}
+use Rattle.ctr_record_laws.specs.area_Areas.{Area, Title, no_pages}
+use Rattle.ctr_record_laws.specs.area_Changes.{ChangesEntry, with_title}
+use Rattle.ctr_record_laws.specs.area_Images.{all_numbered, entry_numbers, is_committed_in, is_dropped_later, is_live, is_named_so, is_newer, name_chain, name_versions, names_gathered, newest_first, rows_of_entry, versions_in}
+use Rattle.ctr_record_laws.specs.area_Sound.{IsAmong, IsSoundArea, xids_in}
 use Rattle.ctr_record_laws.specs.Owed.{OwedByAbort, OwedByCommit, OwedByFreeing}
 use Rattle.ctr_record_laws.proofs.Abort.{abort_agrees}
 use Rattle.ctr_record_laws.proofs.Begin.{begin_test}

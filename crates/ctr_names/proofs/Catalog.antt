@@ -4,15 +4,15 @@ use Rattle.std.specs.List.{AllByRecursion, filter}
 use Rattle.std.specs.Prelude.{is_some, ◌&&◌}
 use Rattle.std.proofs.Math.Bool.{and-false}
 use Rattle.std.proofs.lemmas.Bool.{and_parts, cases_eq, eq-eqb, eqb-true, false≢true, ne_eqb}
-use Rattle.ctr_model.specs.State.{same_name}
-use Rattle.ctr_versions.specs.Chains.{Numbers, newest}
-use Rattle.ctr_versions.specs.Changes.{write}
-use Rattle.ctr_versions.specs.Versions.{Made, NamesSet}
-use Rattle.ctr_versions.proofs.Keys.{known, same_text}
-use Rattle.ctr_versions.proofs.Written.{same_itself}
-use Rattle.ctr_area.specs.Areas.{Area, Title}
-use Rattle.ctr_area.specs.Changes.{with_title}
-use Rattle.ctr_area.specs.Images.{Numbered, all_numbered, all_put_first, entry_numbers, is_live, is_named_so, is_newer, made_by_entry, name_chain, name_versions, newest_first, placed, put_first, versions_by_entry, versions_in}
+use Rattle.ctr_record_laws.specs.model_State.{same_name}
+use Rattle.ctr_record_laws.specs.versions_Chains.{Numbers, newest}
+use Rattle.ctr_record_laws.specs.versions_Changes.{write}
+use Rattle.ctr_record_laws.specs.versions_Versions.{Made, NamesSet}
+use Rattle.ctr_record_laws.proofs.versions_Keys.{known, same_text}
+use Rattle.ctr_record_laws.proofs.versions_Written.{same_itself}
+use Rattle.ctr_record_laws.specs.area_Areas.{Area, Title}
+use Rattle.ctr_record_laws.specs.area_Changes.{with_title}
+use Rattle.ctr_record_laws.specs.area_Images.{Numbered, all_numbered, all_put_first, entry_numbers, is_live, is_named_so, is_newer, made_by_entry, name_chain, name_versions, newest_first, placed, put_first, versions_by_entry, versions_in}
 use Rattle.ctr_record_laws.proofs.Latest.{title_apart, title_here}
 use Rattle.ctr_names.proofs.Chains.{Version, undropped_versions}
 use Rattle.ctr_names.proofs.Entries.{all_passing, all_sorted, left_same, numbered}

@@ -5,11 +5,11 @@ use Rattle.std.specs.Option.{option_or}
 use Rattle.std.specs.Prelude.{is_some}
 use Rattle.std.proofs.lemmas.Bool.{cases_eq, eq-eqb, eqb-true, false≢true, ne_eqb}
 use Rattle.ctr_snap.specs.Seeing.{sees}
-use Rattle.ctr_versions.specs.Chains.{Numbers, newest, value_seen, written_by}
-use Rattle.ctr_versions.specs.Versions.{Made}
-use Rattle.ctr_versions.proofs.Keys.{known, some_is}
-use Rattle.ctr_area.specs.Areas.{Title}
-use Rattle.ctr_area.specs.Images.{Numbered, all_put_first, entry_numbers, is_live, is_named_so, made_by_entry, name_chain, name_versions, newest_first, put_first, versions_by_entry}
+use Rattle.ctr_record_laws.specs.versions_Chains.{Numbers, newest, value_seen, written_by}
+use Rattle.ctr_record_laws.specs.versions_Versions.{Made}
+use Rattle.ctr_record_laws.proofs.versions_Keys.{known, some_is}
+use Rattle.ctr_record_laws.specs.area_Areas.{Title}
+use Rattle.ctr_record_laws.specs.area_Images.{Numbered, all_put_first, entry_numbers, is_live, is_named_so, made_by_entry, name_chain, name_versions, newest_first, put_first, versions_by_entry}
 use Rattle.ctr_names.proofs.Entries.{all_named, all_sorted, each_numbered, name_of, numbered, unsorted}
 
 abbrev pub Version : Type 0

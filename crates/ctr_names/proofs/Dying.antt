@@ -4,20 +4,20 @@ use Rattle.std.specs.List.{AllByRecursion, filter}
 use Rattle.std.specs.Option.{option_or}
 use Rattle.std.specs.Prelude.{is_some, ◌&&◌}
 use Rattle.std.proofs.lemmas.Bool.{cases_eq, false≢true, ne_eqb, true≢false}
-use Rattle.ctr_model.specs.State.{same_name}
+use Rattle.ctr_record_laws.specs.model_State.{same_name}
 use Rattle.ctr_snap.specs.Seeing.{has, sees}
-use Rattle.ctr_versions.specs.Chains.{Numbers, above, by, is_by, newest, newest_since, value_seen, written_by}
-use Rattle.ctr_versions.specs.Changes.{IsOld}
-use Rattle.ctr_versions.specs.Undoing.{ShowsTheSame, writers}
-use Rattle.ctr_versions.specs.Versions.{Made, NamesSet, names_at}
-use Rattle.ctr_versions.proofs.Chains.{not_above}
-use Rattle.ctr_versions.proofs.Changes.{seen_old}
-use Rattle.ctr_versions.proofs.Undoing.{among_writers}
-use Rattle.ctr_meta.specs.Tables.{Tables}
-use Rattle.ctr_area.specs.Areas.{Area, Title}
-use Rattle.ctr_area.specs.Changes.{with_title}
-use Rattle.ctr_area.specs.Images.{Numbered, all_put_first, is_committed_in, is_live, is_named_so, made_by_entry, name_chain, name_versions, newest_first, put_first, versions_by_entry, versions_in}
-use Rattle.ctr_area.specs.Sound.{IsSoundArea}
+use Rattle.ctr_record_laws.specs.versions_Chains.{Numbers, above, by, is_by, newest, newest_since, value_seen, written_by}
+use Rattle.ctr_record_laws.specs.versions_Changes.{IsOld}
+use Rattle.ctr_record_laws.specs.versions_Undoing.{ShowsTheSame, writers}
+use Rattle.ctr_record_laws.specs.versions_Versions.{Made, NamesSet, names_at}
+use Rattle.ctr_record_laws.proofs.versions_Chains.{not_above}
+use Rattle.ctr_record_laws.proofs.versions_Changes.{seen_old}
+use Rattle.ctr_record_laws.proofs.versions_Undoing.{among_writers}
+use Rattle.ctr_record_laws.specs.meta_Tables.{Tables}
+use Rattle.ctr_record_laws.specs.area_Areas.{Area, Title}
+use Rattle.ctr_record_laws.specs.area_Changes.{with_title}
+use Rattle.ctr_record_laws.specs.area_Images.{Numbered, all_put_first, is_committed_in, is_live, is_named_so, made_by_entry, name_chain, name_versions, newest_first, put_first, versions_by_entry, versions_in}
+use Rattle.ctr_record_laws.specs.area_Sound.{IsSoundArea}
 use Rattle.ctr_record_laws.specs.Owed.{AgreeOnCommits, OwedByDying}
 use Rattle.ctr_record_laws.proofs.Entry.{dying_sound}
 use Rattle.ctr_record_laws.proofs.Latest.{by_title, title_apart, title_here}

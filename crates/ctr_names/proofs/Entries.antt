@@ -3,11 +3,11 @@ use Rattle.std.proofs.Common.{Bool, List, None, Option, Some, [], ap, arith, con
 use Rattle.std.specs.List.{AllByRecursion, filter}
 use Rattle.std.specs.Prelude.{◌&&◌}
 use Rattle.std.proofs.lemmas.Bool.{and_parts, eq-eqb, eqb-true, false≢true, true≢false}
-use Rattle.ctr_model.specs.State.{same_name}
-use Rattle.ctr_versions.proofs.Keys.{known, same_text}
-use Rattle.ctr_versions.proofs.Written.{same_itself}
-use Rattle.ctr_area.specs.Areas.{Title}
-use Rattle.ctr_area.specs.Images.{Numbered, is_live, is_named_so, is_newer, newest_first, numbers, placed}
+use Rattle.ctr_record_laws.specs.model_State.{same_name}
+use Rattle.ctr_record_laws.proofs.versions_Keys.{known, same_text}
+use Rattle.ctr_record_laws.proofs.versions_Written.{same_itself}
+use Rattle.ctr_record_laws.specs.area_Areas.{Title}
+use Rattle.ctr_record_laws.specs.area_Images.{Numbered, is_live, is_named_so, is_newer, newest_first, numbers, placed}
 use Rattle.ctr_names.proofs.Later.{newer_in, older_out}
 
 -- ---- all entries, and those of a name

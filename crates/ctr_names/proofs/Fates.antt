@@ -6,16 +6,16 @@ use Rattle.std.proofs.lemmas.Bool.{cases_eq, cases_lt, eq-eqb, false≢true, le-
 use Rattle.ctr_snap.specs.Seeing.{SnapshotTaken, has, is_committed, is_own, sees, sees_or_own}
 use Rattle.ctr_types.specs.declared.xid.Fate.{Fate}
 use Rattle.ctr_types.specs.declared.xid.Fate.TheVariants as fate
-use Rattle.ctr_versions.specs.Chains.{above, is_by}
-use Rattle.ctr_versions.specs.Engine.{IsSeenIfOld, SessionHeld, session_sees}
-use Rattle.ctr_versions.specs.Xids.{IsSnapshotOf, Xids, fate_of, has_committed, number_of, place_from}
-use Rattle.ctr_versions.proofs.Keys.{known}
-use Rattle.ctr_versions.proofs.Xids.{committed_fate, number_committed, sees_is}
-use Rattle.ctr_meta.specs.Seen.{xid_is_changed, xid_is_seen}
-use Rattle.ctr_meta.specs.Tables.{Tables, fate_in, heads_at, is_in}
-use Rattle.ctr_area.specs.Areas.{Area}
-use Rattle.ctr_area.specs.Images.{is_committed_in}
-use Rattle.ctr_area.specs.Sound.{IsSoundArea, xids_in}
+use Rattle.ctr_record_laws.specs.versions_Chains.{above, is_by}
+use Rattle.ctr_record_laws.specs.versions_Engine.{IsSeenIfOld, SessionHeld, session_sees}
+use Rattle.ctr_record_laws.specs.versions_Xids.{IsSnapshotOf, Xids, fate_of, has_committed, number_of, place_from}
+use Rattle.ctr_record_laws.proofs.versions_Keys.{known}
+use Rattle.ctr_record_laws.proofs.versions_Xids.{committed_fate, number_committed, sees_is}
+use Rattle.ctr_record_laws.specs.meta_Seen.{xid_is_changed, xid_is_seen}
+use Rattle.ctr_record_laws.specs.meta_Tables.{Tables, fate_in, heads_at, is_in}
+use Rattle.ctr_record_laws.specs.area_Areas.{Area}
+use Rattle.ctr_record_laws.specs.area_Images.{is_committed_in}
+use Rattle.ctr_record_laws.specs.area_Sound.{IsSoundArea, xids_in}
 use Rattle.ctr_record_laws.specs.Owed.{AgreeOnCommits}
 use Rattle.ctr_record_laws.proofs.Heads.{listed_drawn, listed_open}
 use Rattle.ctr_names.specs.Search.{IsNumberOf, IsOfTables, finds}

@@ -4,12 +4,12 @@ use Rattle.std.specs.List.{filter}
 use Rattle.std.specs.Prelude.{◌&&◌, ◌||◌}
 use Rattle.std.proofs.Math.Seq.{drop-length}
 use Rattle.std.proofs.lemmas.Bool.{and_parts, eq-eqb, false≢true, ne_eqb, not-true, or_left, or_parts, or_right}
-use Rattle.ctr_rec.specs.declared.record.SlogItem.{SlogItem}
-use Rattle.ctr_meta.specs.Items.{is_item_by}
-use Rattle.ctr_meta.specs.Tables.{Tables}
-use Rattle.ctr_area.specs.Areas.{Area}
-use Rattle.ctr_area.specs.Images.{all_put_first, is_committed_in, is_live, made_by_entry, name_chain, put_first}
-use Rattle.ctr_area.specs.Sound.{IsAmong, IsOneOf, IsSoundArea, all_undone, stands_for, xids_in}
+use Rattle.ctr_record_laws.specs.rec_SlogItem.{SlogItem}
+use Rattle.ctr_record_laws.specs.meta_Items.{is_item_by}
+use Rattle.ctr_record_laws.specs.meta_Tables.{Tables}
+use Rattle.ctr_record_laws.specs.area_Areas.{Area}
+use Rattle.ctr_record_laws.specs.area_Images.{all_put_first, is_committed_in, is_live, made_by_entry, name_chain, put_first}
+use Rattle.ctr_record_laws.specs.area_Sound.{IsAmong, IsOneOf, IsSoundArea, all_undone, stands_for, xids_in}
 use Rattle.ctr_record_laws.specs.Owed.{IsNameFreeFor}
 use Rattle.ctr_record_laws.proofs.Latest.{live_some}
 use Rattle.ctr_names.proofs.Catalog.{IsNewest, chain_front, create_newest, others_chain}

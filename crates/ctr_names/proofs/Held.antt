@@ -5,19 +5,19 @@ use Rattle.std.specs.Ordering.{nat_cmp}
 use Rattle.std.specs.Prelude.{is_some, ◌||◌}
 use Rattle.std.proofs.Math.Bool.{or-true}
 use Rattle.std.proofs.lemmas.Bool.{eqb-true, false≢true}
-use Rattle.ctr_model.specs.Database.{Database}
-use Rattle.ctr_model.specs.Reply.{without_name}
-use Rattle.ctr_model.specs.State.{at_rest, has_name, same_name}
-use Rattle.ctr_model.specs.declared.state.State.{State}
-use Rattle.ctr_model.specs.declared.state.Transaction.{Transaction}
-use Rattle.ctr_versions.specs.Engine.{SessionHeld}
-use Rattle.ctr_versions.specs.Laws.{IsNoSessions}
-use Rattle.ctr_versions.proofs.Keys.{known, same_text, some_is}
-use Rattle.ctr_versions.proofs.Written.{same_itself}
-use Rattle.ctr_rec.specs.declared.record.SlogItem.{SlogItem}
-use Rattle.ctr_rec.specs.declared.record.SlogItem.TheVariants.{AllocOf, CreateOf, DropOf, FreeOf}
-use Rattle.ctr_area.specs.Areas.{Title}
-use Rattle.ctr_area.specs.Sound.{IsSchemaItem}
+use Rattle.ctr_record_laws.specs.model_Database.{Database}
+use Rattle.ctr_record_laws.specs.model_Reply.{without_name}
+use Rattle.ctr_record_laws.specs.model_State.{at_rest, has_name, same_name}
+use Rattle.ctr_record_laws.specs.model_declared_state_State.{State}
+use Rattle.ctr_record_laws.specs.model_Transaction.{Transaction}
+use Rattle.ctr_record_laws.specs.versions_Engine.{SessionHeld}
+use Rattle.ctr_record_laws.specs.versions_Laws.{IsNoSessions}
+use Rattle.ctr_record_laws.proofs.versions_Keys.{known, same_text, some_is}
+use Rattle.ctr_record_laws.proofs.versions_Written.{same_itself}
+use Rattle.ctr_record_laws.specs.rec_SlogItem.{SlogItem}
+use Rattle.ctr_record_laws.specs.rec_SlogItem.TheVariants.{AllocOf, CreateOf, DropOf, FreeOf}
+use Rattle.ctr_record_laws.specs.area_Areas.{Title}
+use Rattle.ctr_record_laws.specs.area_Sound.{IsSchemaItem}
 use Rattle.ctr_record_laws.specs.Owed.{IsNameFreeFor}
 use Rattle.ctr_record_laws.proofs.Named.{IsOfPage, alloc_of_page, free_of_page}
 use Rattle.ctr_names.specs.Held.{HoldsNames, IsNameHeldBy, names_of_items}

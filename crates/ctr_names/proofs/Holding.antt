@@ -4,23 +4,23 @@ use Rattle.std.specs.FinMap.Entries.{find, put}
 use Rattle.std.specs.Ordering.{nat_cmp}
 use Rattle.std.specs.Prelude.{is_some}
 use Rattle.std.proofs.lemmas.Bool.{eqb-true, false≢true}
-use Rattle.ctr_model.specs.Maps.{without}
-use Rattle.ctr_model.specs.Reply.{without_name}
-use Rattle.ctr_model.specs.State.{has_name, same_name, with_transaction}
-use Rattle.ctr_model.specs.declared.state.State.{State}
-use Rattle.ctr_model.specs.declared.state.Transaction.{Transaction}
-use Rattle.ctr_model.proofs.Sessions.{find-put-other, find-put-same, find-without-other, find-without-same}
-use Rattle.ctr_versions.specs.Engine.{SessionHeld}
-use Rattle.ctr_versions.specs.Laws.{IsNoSessions}
-use Rattle.ctr_versions.proofs.Keys.{known, same_text, some_is}
-use Rattle.ctr_versions.proofs.Written.{same_itself}
-use Rattle.ctr_rec.specs.declared.record.SlogItem.{SlogItem}
-use Rattle.ctr_rec.specs.declared.record.SlogItem.TheVariants.{AllocOf, CreateOf, DropOf, FreeOf}
-use Rattle.ctr_meta.specs.Items.{is_wanted, left_out}
-use Rattle.ctr_meta.specs.declared.items.Wanted.{Wanted}
-use Rattle.ctr_meta.specs.declared.items.Wanted.TheVariants.{Allocation, OfPage}
-use Rattle.ctr_area.specs.Areas.{Title}
-use Rattle.ctr_area.specs.Sound.{IsSchemaItem}
+use Rattle.ctr_record_laws.specs.model_Maps.{without}
+use Rattle.ctr_record_laws.specs.model_Reply.{without_name}
+use Rattle.ctr_record_laws.specs.model_State.{has_name, same_name, with_transaction}
+use Rattle.ctr_record_laws.specs.model_declared_state_State.{State}
+use Rattle.ctr_record_laws.specs.model_Transaction.{Transaction}
+use Rattle.ctr_record_laws.proofs.model_Sessions.{find-put-other, find-put-same, find-without-other, find-without-same}
+use Rattle.ctr_record_laws.specs.versions_Engine.{SessionHeld}
+use Rattle.ctr_record_laws.specs.versions_Laws.{IsNoSessions}
+use Rattle.ctr_record_laws.proofs.versions_Keys.{known, same_text, some_is}
+use Rattle.ctr_record_laws.proofs.versions_Written.{same_itself}
+use Rattle.ctr_record_laws.specs.rec_SlogItem.{SlogItem}
+use Rattle.ctr_record_laws.specs.rec_SlogItem.TheVariants.{AllocOf, CreateOf, DropOf, FreeOf}
+use Rattle.ctr_record_laws.specs.meta_Items.{is_wanted, left_out}
+use Rattle.ctr_record_laws.specs.meta_Wanted.{Wanted}
+use Rattle.ctr_record_laws.specs.meta_Wanted.TheVariants.{Allocation, OfPage}
+use Rattle.ctr_record_laws.specs.area_Areas.{Title}
+use Rattle.ctr_record_laws.specs.area_Sound.{IsSchemaItem}
 use Rattle.ctr_record_laws.proofs.Members.{among_front, among_parts}
 use Rattle.ctr_record_laws.proofs.Named.{IsOfPage, alloc_of_page, free_of_page}
 use Rattle.ctr_names.specs.Held.{HaveSameTables, HoldsNames, IsNameHeldBy}

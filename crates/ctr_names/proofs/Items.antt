@@ -1,11 +1,11 @@
 -- Items of tables among those of the secondary log.
 use Rattle.std.proofs.Common.{List, [], ap, cond, false, inl, inr, subst, sym, true, ℕ, ⊎_elim, ◌∙◌, ◌∷◌, ◌≡◌, ◌⊎◌}
-use Rattle.ctr_versions.proofs.Keys.{known}
-use Rattle.ctr_rec.specs.declared.record.SlogItem.{SlogItem}
-use Rattle.ctr_rec.specs.declared.record.SlogItem.TheVariants.{CreateOf, DropOf}
-use Rattle.ctr_meta.specs.Items.{is_wanted, left_out}
-use Rattle.ctr_meta.specs.declared.items.Wanted.{Wanted}
-use Rattle.ctr_area.specs.Sound.{IsAmong, IsSchemaItem}
+use Rattle.ctr_record_laws.proofs.versions_Keys.{known}
+use Rattle.ctr_record_laws.specs.rec_SlogItem.{SlogItem}
+use Rattle.ctr_record_laws.specs.rec_SlogItem.TheVariants.{CreateOf, DropOf}
+use Rattle.ctr_record_laws.specs.meta_Items.{is_wanted, left_out}
+use Rattle.ctr_record_laws.specs.meta_Wanted.{Wanted}
+use Rattle.ctr_record_laws.specs.area_Sound.{IsAmong, IsSchemaItem}
 use Rattle.ctr_record_laws.proofs.Latest.{create_isnt_drop, entry_of_item, xid_of_item}
 use Rattle.ctr_record_laws.proofs.Named.{IsOfPage}
 

@@ -3,9 +3,9 @@ use Rattle.std.proofs.Common.{Bool, ap, arith, cond, false, not, refl, sym, true
 use Rattle.std.specs.Prelude.{nat_lt, ◌&&◌, ◌||◌}
 use Rattle.std.proofs.Math.Bool.{and-false, or-true}
 use Rattle.std.proofs.lemmas.Bool.{and_parts, cases_lt, eq-eqb, false≢true, le-ltb, lt-ltb, ne_eqb, true≢false}
-use Rattle.ctr_versions.proofs.Keys.{known}
-use Rattle.ctr_area.specs.Areas.{Title}
-use Rattle.ctr_area.specs.Images.{is_dropped_later, is_newer}
+use Rattle.ctr_record_laws.proofs.versions_Keys.{known}
+use Rattle.ctr_record_laws.specs.area_Areas.{Title}
+use Rattle.ctr_record_laws.specs.area_Images.{is_dropped_later, is_newer}
 
 -- ---- dropped later
 

@@ -5,20 +5,20 @@ use Rattle.std.specs.Ordering.{int_cmp}
 use Rattle.std.specs.Prelude.{is_some, ◌&&◌}
 use Rattle.std.proofs.lemmas.Bool.{false≢true}
 use Rattle.ctr_types.specs.declared.value.Column.{Column}
-use Rattle.ctr_model.specs.State.{same_name}
-use Rattle.ctr_versions.specs.Chains.{Numbers, value_seen}
-use Rattle.ctr_versions.specs.Changes.{write}
-use Rattle.ctr_versions.specs.Listing.{chain_at}
-use Rattle.ctr_versions.specs.Versions.{IsUnmadeTable, Made, NamesSet, Versions, names_at}
-use Rattle.ctr_versions.proofs.Written.{same_itself}
-use Rattle.ctr_rec.specs.declared.record.SlogItem.TheVariants.{DropOf}
-use Rattle.ctr_meta.specs.Effects.{with_item}
-use Rattle.ctr_meta.specs.Tables.{Tables}
-use Rattle.ctr_area.specs.Areas.{Area, Firsts, Title}
-use Rattle.ctr_area.specs.Chains.{places_from}
-use Rattle.ctr_area.specs.Changes.{ChangesEntry, empty_chains, new_title, with_title}
-use Rattle.ctr_area.specs.Images.{is_committed_in, is_named_so, made_by_entry, name_chain, rows_gathered, versions_in}
-use Rattle.ctr_area.specs.Sound.{IsAmong, IsSchemaItem, IsSoundArea, xids_in}
+use Rattle.ctr_record_laws.specs.model_State.{same_name}
+use Rattle.ctr_record_laws.specs.versions_Chains.{Numbers, value_seen}
+use Rattle.ctr_record_laws.specs.versions_Changes.{write}
+use Rattle.ctr_record_laws.specs.versions_Listing.{chain_at}
+use Rattle.ctr_record_laws.specs.versions_Versions.{IsUnmadeTable, Made, NamesSet, Versions, names_at}
+use Rattle.ctr_record_laws.proofs.versions_Written.{same_itself}
+use Rattle.ctr_record_laws.specs.rec_SlogItem.TheVariants.{DropOf}
+use Rattle.ctr_record_laws.specs.meta_Effects.{with_item}
+use Rattle.ctr_record_laws.specs.meta_Tables.{Tables}
+use Rattle.ctr_record_laws.specs.area_Areas.{Area, Firsts, Title}
+use Rattle.ctr_record_laws.specs.area_Chains.{places_from}
+use Rattle.ctr_record_laws.specs.area_Changes.{ChangesEntry, empty_chains, new_title, with_title}
+use Rattle.ctr_record_laws.specs.area_Images.{is_committed_in, is_named_so, made_by_entry, name_chain, rows_gathered, versions_in}
+use Rattle.ctr_record_laws.specs.area_Sound.{IsAmong, IsSchemaItem, IsSoundArea, xids_in}
 use Rattle.ctr_record_laws.specs.Bounds.{IsInBounds}
 use Rattle.ctr_record_laws.specs.Owed.{AgreeOnCommits, OwedByCreate, OwedByDrop}
 use Rattle.ctr_record_laws.proofs.Drop.{drop_sound}

@@ -9,19 +9,19 @@ use Rattle.std.specs.Ordering.{eq_by_cmp, int_cmp}
 use Rattle.std.specs.Prelude.{T, is_some, unwrap_or, ◌&&◌}
 use Rattle.std.proofs.Math.Bool.{and-false, and-true}
 use Rattle.std.proofs.lemmas.Bool.{and_parts, false≢true}
-use Rattle.ctr_model.specs.Database.{name_cmp, row_at, table_at}
-use Rattle.ctr_model.specs.State.{same_name}
-use Rattle.ctr_model.specs.declared.database.Table.{Table}
-use Rattle.ctr_versions.specs.Chains.{value_seen}
-use Rattle.ctr_versions.specs.Listing.{chain_at, entries_seen}
-use Rattle.ctr_versions.specs.Versions.{HaveOwnTables, IsOrdered, Made, database_seen, names_at, rows_of}
-use Rattle.ctr_versions.proofs.Keys.{known, same_text, some_is}
-use Rattle.ctr_versions.proofs.Listing.{find-shown, is_sorted-shown}
-use Rattle.ctr_versions.proofs.Versions.{shows_database}
-use Rattle.ctr_area.specs.Areas.{Area, Title}
-use Rattle.ctr_area.specs.Chains.{slot_places}
-use Rattle.ctr_area.specs.Images.{Numbered, all_numbered, entry_numbers, image_rows, is_live, is_named_so, is_standing, made_by_entry, name_chain, name_versions, names_gathered, newest_first, rows_of_entry, table_in, tables_standing, versions_in}
-use Rattle.ctr_area.specs.Sound.{IsOneOf}
+use Rattle.ctr_record_laws.specs.model_Database.{name_cmp, row_at, table_at}
+use Rattle.ctr_record_laws.specs.model_State.{same_name}
+use Rattle.ctr_record_laws.specs.model_Table.{Table}
+use Rattle.ctr_record_laws.specs.versions_Chains.{value_seen}
+use Rattle.ctr_record_laws.specs.versions_Listing.{chain_at, entries_seen}
+use Rattle.ctr_record_laws.specs.versions_Versions.{HaveOwnTables, IsOrdered, Made, database_seen, names_at, rows_of}
+use Rattle.ctr_record_laws.proofs.versions_Keys.{known, same_text, some_is}
+use Rattle.ctr_record_laws.proofs.versions_Listing.{find-shown, is_sorted-shown}
+use Rattle.ctr_record_laws.proofs.versions_Versions.{shows_database}
+use Rattle.ctr_record_laws.specs.area_Areas.{Area, Title}
+use Rattle.ctr_record_laws.specs.area_Chains.{slot_places}
+use Rattle.ctr_record_laws.specs.area_Images.{Numbered, all_numbered, entry_numbers, image_rows, is_live, is_named_so, is_standing, made_by_entry, name_chain, name_versions, names_gathered, newest_first, rows_of_entry, table_in, tables_standing, versions_in}
+use Rattle.ctr_record_laws.specs.area_Sound.{IsOneOf}
 use Rattle.ctr_record_laws.proofs.Gathering.{sorted-gathered}
 use Rattle.ctr_record_laws.proofs.Slots.{rows_sorted, slots_here}
 use Rattle.ctr_names.proofs.Chains.{seen_entry}

@@ -2,8 +2,8 @@
 use Rattle.std.proofs.Common.{Bool, List, [], ap, arith, cond, false, inl, inr, refl, sym, true, ℕ, ◌<◌, ◌∙◌, ◌∷◌, ◌≡◌, ◌⊎◌}
 use Rattle.std.specs.List.{AllByRecursion}
 use Rattle.std.specs.Prelude.{◌&&◌, ◌||◌}
-use Rattle.ctr_area.specs.Areas.{Title}
-use Rattle.ctr_area.specs.Images.{Numbered, is_dropped_later, is_newer, newest_first, placed}
+use Rattle.ctr_record_laws.specs.area_Areas.{Title}
+use Rattle.ctr_record_laws.specs.area_Images.{Numbered, is_dropped_later, is_newer, newest_first, placed}
 use Rattle.ctr_names.proofs.Entries.{InPairs, all_sorted}
 use Rattle.ctr_names.proofs.Later.{earlier_none, earlier_than, later_none, later_than}
 

@@ -5,17 +5,17 @@ use Rattle.std.specs.Prelude.{◌&&◌, ◌||◌}
 use Rattle.std.proofs.Math.Bool.{or-true}
 use Rattle.std.proofs.Math.Seq.{drop-append_seam, drop-length}
 use Rattle.std.proofs.lemmas.Bool.{and_from, eq-eqb, eqb-true, false≢true, ne_eqb, not-true}
-use Rattle.ctr_model.specs.State.{same_name}
-use Rattle.ctr_versions.specs.Versions.{Made}
-use Rattle.ctr_versions.proofs.Keys.{known, same_text}
-use Rattle.ctr_versions.proofs.Written.{same_itself}
-use Rattle.ctr_rec.specs.declared.record.SlogItem.{SlogItem}
-use Rattle.ctr_rec.specs.declared.record.SlogItem.TheVariants.{AllocOf, CreateOf, DropOf, FreeOf}
-use Rattle.ctr_meta.specs.Items.{is_item_by}
-use Rattle.ctr_meta.specs.Tables.{Tables}
-use Rattle.ctr_area.specs.Areas.{Area, Title}
-use Rattle.ctr_area.specs.Images.{Numbered, entry_numbers, is_committed_in, is_live, is_named_so, name_chain, name_versions, newest_first}
-use Rattle.ctr_area.specs.Sound.{IsAmong, IsSchemaItem, IsSoundArea, all_undone, stands_for, xids_in}
+use Rattle.ctr_record_laws.specs.model_State.{same_name}
+use Rattle.ctr_record_laws.specs.versions_Versions.{Made}
+use Rattle.ctr_record_laws.proofs.versions_Keys.{known, same_text}
+use Rattle.ctr_record_laws.proofs.versions_Written.{same_itself}
+use Rattle.ctr_record_laws.specs.rec_SlogItem.{SlogItem}
+use Rattle.ctr_record_laws.specs.rec_SlogItem.TheVariants.{AllocOf, CreateOf, DropOf, FreeOf}
+use Rattle.ctr_record_laws.specs.meta_Items.{is_item_by}
+use Rattle.ctr_record_laws.specs.meta_Tables.{Tables}
+use Rattle.ctr_record_laws.specs.area_Areas.{Area, Title}
+use Rattle.ctr_record_laws.specs.area_Images.{Numbered, entry_numbers, is_committed_in, is_live, is_named_so, name_chain, name_versions, newest_first}
+use Rattle.ctr_record_laws.specs.area_Sound.{IsAmong, IsSchemaItem, IsSoundArea, all_undone, stands_for, xids_in}
 use Rattle.ctr_record_laws.proofs.Commit.{kept_cut}
 use Rattle.ctr_record_laws.proofs.Latest.{live_open, live_some}
 use Rattle.ctr_record_laws.proofs.Leaving.{same_creator, same_name_undone}

@@ -3,9 +3,9 @@ use Rattle.std.proofs.Common.{Bool, List, [], ap, arith, cond, false, refl, subs
 use Rattle.std.specs.List.{AllByRecursion, filter}
 use Rattle.std.specs.Prelude.{nat_lt, ◌&&◌}
 use Rattle.std.proofs.lemmas.Bool.{and_from, and_parts, cases_lt, eq-eqb, eqb-true, false≢true, lt-ltb, ltb-true}
-use Rattle.ctr_versions.proofs.Keys.{known}
-use Rattle.ctr_area.specs.Areas.{Title}
-use Rattle.ctr_area.specs.Images.{Numbered, is_named_so, is_newer, newest_first, placed}
+use Rattle.ctr_record_laws.proofs.versions_Keys.{known}
+use Rattle.ctr_record_laws.specs.area_Areas.{Title}
+use Rattle.ctr_record_laws.specs.area_Images.{Numbered, is_named_so, is_newer, newest_first, placed}
 use Rattle.ctr_names.proofs.Entries.{all_placed, numbered}
 use Rattle.ctr_names.proofs.Later.{earlier_than, later_than, newer_in, newer_is, older_out}
 

@@ -5,12 +5,12 @@ use Rattle.std.specs.Option.{option_or}
 use Rattle.std.specs.Prelude.{is_some}
 use Rattle.std.proofs.lemmas.Bool.{cases_lt, false≢true, le-leb, leb-true}
 use Rattle.ctr_types.specs.declared.value.Schema.{Schema}
-use Rattle.ctr_versions.specs.Chains.{AllTold, IsChangeTold, IsUnwritten, Numbers, by, is_by, last_write, value_seen}
-use Rattle.ctr_versions.specs.Versions.{schemas}
-use Rattle.ctr_versions.proofs.Undoing.{of_schemas}
-use Rattle.ctr_meta.specs.Tables.{Tables}
-use Rattle.ctr_area.specs.Areas.{Area, Title}
-use Rattle.ctr_area.specs.Images.{is_committed_in, is_live, is_named_so, is_standing, made_by_entry, name_chain}
+use Rattle.ctr_record_laws.specs.versions_Chains.{AllTold, IsChangeTold, IsUnwritten, Numbers, by, is_by, last_write, value_seen}
+use Rattle.ctr_record_laws.specs.versions_Versions.{schemas}
+use Rattle.ctr_record_laws.proofs.versions_Undoing.{of_schemas}
+use Rattle.ctr_record_laws.specs.meta_Tables.{Tables}
+use Rattle.ctr_record_laws.specs.area_Areas.{Area, Title}
+use Rattle.ctr_record_laws.specs.area_Images.{is_committed_in, is_live, is_named_so, is_standing, made_by_entry, name_chain}
 use Rattle.ctr_record_laws.specs.Bounds.{IsInBounds}
 use Rattle.ctr_record_laws.specs.Owed.{AgreeOnCommits}
 use Rattle.ctr_names.specs.Stand.{NamesStand}

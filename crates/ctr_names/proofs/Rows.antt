@@ -5,16 +5,16 @@ use Rattle.std.specs.List.{flat_map}
 use Rattle.std.specs.Ordering.{int_cmp}
 use Rattle.std.specs.Prelude.{unwrap_or}
 use Rattle.std.proofs.lemmas.Bool.{cases_lt}
-use Rattle.ctr_versions.specs.Listing.{chain_at}
-use Rattle.ctr_versions.specs.Versions.{rows_of}
-use Rattle.ctr_versions.proofs.Keys.{known}
-use Rattle.ctr_meta.specs.Tables.{Tables}
-use Rattle.ctr_area.specs.ctr_page.declared.rows.Place.{Place}
-use Rattle.ctr_area.specs.Areas.{Area, Firsts, Older, RowVersion, Slot, Title}
-use Rattle.ctr_area.specs.Chains.{chain_of, pages_bound, pages_from, places_from, slot_places, table_pages}
-use Rattle.ctr_area.specs.Changes.{ChangesEntry, with_firsts, with_title}
-use Rattle.ctr_area.specs.Images.{rows_gathered, rows_of_entry, versions_in}
-use Rattle.ctr_area.specs.Sound.{IsAmong, IsSoundArea, IsUsedSlot}
+use Rattle.ctr_record_laws.specs.versions_Listing.{chain_at}
+use Rattle.ctr_record_laws.specs.versions_Versions.{rows_of}
+use Rattle.ctr_record_laws.proofs.versions_Keys.{known}
+use Rattle.ctr_record_laws.specs.meta_Tables.{Tables}
+use Rattle.ctr_record_laws.specs.page_Place.{Place}
+use Rattle.ctr_record_laws.specs.area_Areas.{Area, Firsts, Older, RowVersion, Slot, Title}
+use Rattle.ctr_record_laws.specs.area_Chains.{chain_of, pages_bound, pages_from, places_from, slot_places, table_pages}
+use Rattle.ctr_record_laws.specs.area_Changes.{ChangesEntry, with_firsts, with_title}
+use Rattle.ctr_record_laws.specs.area_Images.{rows_gathered, rows_of_entry, versions_in}
+use Rattle.ctr_record_laws.specs.area_Sound.{IsAmong, IsSoundArea, IsUsedSlot}
 use Rattle.ctr_record_laws.proofs.Away.{IsSameOn, away_chain, place_on_chains, slot_places_same}
 use Rattle.ctr_record_laws.proofs.Firsts.{by_entry}
 use Rattle.ctr_record_laws.proofs.Fresh.{AreNoPages, fresh_away, fresh_firsts, fresh_tables, mid_sound, zero_places}

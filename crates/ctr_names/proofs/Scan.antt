@@ -5,11 +5,11 @@ use Rattle.std.specs.Option.{option_map}
 use Rattle.std.specs.Prelude.{◌&&◌}
 use Rattle.std.proofs.lemmas.Bool.{and_from, and_parts, false≢true}
 use Rattle.ctr_snap.specs.Seeing.{sees}
-use Rattle.ctr_versions.specs.Chains.{value_seen}
-use Rattle.ctr_versions.proofs.Keys.{known}
-use Rattle.ctr_area.specs.Areas.{Title}
-use Rattle.ctr_area.specs.Images.{Numbered, all_numbered, entry_numbers, is_live, is_named_so, is_newer, is_standing, made_by_entry, name_chain, name_versions, newest_first, placed}
-use Rattle.ctr_area.specs.Sound.{IsOneOf}
+use Rattle.ctr_record_laws.specs.versions_Chains.{value_seen}
+use Rattle.ctr_record_laws.proofs.versions_Keys.{known}
+use Rattle.ctr_record_laws.specs.area_Areas.{Title}
+use Rattle.ctr_record_laws.specs.area_Images.{Numbered, all_numbered, entry_numbers, is_live, is_named_so, is_newer, is_standing, made_by_entry, name_chain, name_versions, newest_first, placed}
+use Rattle.ctr_record_laws.specs.area_Sound.{IsOneOf}
 use Rattle.ctr_names.proofs.Chains.{Version, chain_listed, shows_more}
 use Rattle.ctr_names.proofs.Entries.{InPairs, all_named, all_placed, all_sorted, each_numbered, first_cases, first_filter, first_of, first_of_filter, name_of, none_first, numbered, one_sorted, pairs_named}
 use Rattle.ctr_names.proofs.Later.{newer_gone, older_gone}

@@ -4,24 +4,24 @@ use Rattle.std.specs.List.{AllByRecursion}
 use Rattle.std.specs.Option.{option_map}
 use Rattle.std.specs.Prelude.{is_some, unwrap_or, ◌&&◌, ◌||◌}
 use Rattle.std.proofs.lemmas.Bool.{and_parts, cases_eq, cases_lt, eq-eqb, false≢true, le-leb, ne_eqb, not-true, or_left}
-use Rattle.ctr_model.specs.State.{view}
-use Rattle.ctr_model.specs.declared.state.State.{State}
+use Rattle.ctr_record_laws.specs.model_State.{view}
+use Rattle.ctr_record_laws.specs.model_declared_state_State.{State}
 use Rattle.ctr_snap.specs.Seeing.{sees}
-use Rattle.ctr_versions.specs.Chains.{AllTold, IsChangeTold, Numbers, by, changed_since, is_by, value_seen}
-use Rattle.ctr_versions.specs.Engine.{IsSeenIfOld, session_sees}
-use Rattle.ctr_versions.specs.Keys.{schema_named, schema_writes}
-use Rattle.ctr_versions.specs.Versions.{Made, names_at, rows_of, schemas}
-use Rattle.ctr_versions.specs.Xids.{Xids, fate_of, number_of}
-use Rattle.ctr_versions.proofs.Chains.{seen_alike}
-use Rattle.ctr_versions.proofs.Engine.{session_alike}
-use Rattle.ctr_versions.proofs.Keys.{known}
-use Rattle.ctr_versions.proofs.Reading.{schema_read}
-use Rattle.ctr_versions.proofs.Versions.{view_shown}
-use Rattle.ctr_versions.proofs.Xids.{number_committed, sees_is}
-use Rattle.ctr_meta.specs.Tables.{Tables}
-use Rattle.ctr_area.specs.Areas.{Area, Title}
-use Rattle.ctr_area.specs.Images.{is_committed_in, is_live, is_named_so, is_standing, made_by_entry, name_chain, versions_in}
-use Rattle.ctr_area.specs.Sound.{IsAmong, IsSchemaItem, IsSoundArea, stands_for, xids_in}
+use Rattle.ctr_record_laws.specs.versions_Chains.{AllTold, IsChangeTold, Numbers, by, changed_since, is_by, value_seen}
+use Rattle.ctr_record_laws.specs.versions_Engine.{IsSeenIfOld, session_sees}
+use Rattle.ctr_record_laws.specs.versions_Keys.{schema_named, schema_writes}
+use Rattle.ctr_record_laws.specs.versions_Versions.{Made, names_at, rows_of, schemas}
+use Rattle.ctr_record_laws.specs.versions_Xids.{Xids, fate_of, number_of}
+use Rattle.ctr_record_laws.proofs.versions_Chains.{seen_alike}
+use Rattle.ctr_record_laws.proofs.versions_Engine.{session_alike}
+use Rattle.ctr_record_laws.proofs.versions_Keys.{known}
+use Rattle.ctr_record_laws.proofs.versions_Reading.{schema_read}
+use Rattle.ctr_record_laws.proofs.versions_Versions.{view_shown}
+use Rattle.ctr_record_laws.proofs.versions_Xids.{number_committed, sees_is}
+use Rattle.ctr_record_laws.specs.meta_Tables.{Tables}
+use Rattle.ctr_record_laws.specs.area_Areas.{Area, Title}
+use Rattle.ctr_record_laws.specs.area_Images.{is_committed_in, is_live, is_named_so, is_standing, made_by_entry, name_chain, versions_in}
+use Rattle.ctr_record_laws.specs.area_Sound.{IsAmong, IsSchemaItem, IsSoundArea, stands_for, xids_in}
 use Rattle.ctr_record_laws.specs.Bounds.{IsInBounds}
 use Rattle.ctr_record_laws.specs.Owed.{AgreeOnCommits, IsNameFreeFor}
 use Rattle.ctr_record_laws.proofs.Latest.{live_some}

@@ -5,10 +5,10 @@ use Rattle.std.specs.List.{AllByRecursion, filter}
 use Rattle.std.specs.Prelude.{◌&&◌}
 use Rattle.std.proofs.Math.Bool.{and-false}
 use Rattle.std.proofs.lemmas.Bool.{eq-eqb, false≢true, ne_eqb}
-use Rattle.ctr_versions.specs.Versions.{Made}
-use Rattle.ctr_versions.proofs.Keys.{known}
-use Rattle.ctr_area.specs.Areas.{Title}
-use Rattle.ctr_area.specs.Images.{Numbered, all_put_first, is_named_so, is_newer, made_by_entry, name_versions, newest_first, placed, put_first, versions_by_entry}
+use Rattle.ctr_record_laws.specs.versions_Versions.{Made}
+use Rattle.ctr_record_laws.proofs.versions_Keys.{known}
+use Rattle.ctr_record_laws.specs.area_Areas.{Title}
+use Rattle.ctr_record_laws.specs.area_Images.{Numbered, all_put_first, is_named_so, is_newer, made_by_entry, name_versions, newest_first, placed, put_first, versions_by_entry}
 use Rattle.ctr_names.proofs.Chains.{Version, all_put, before, by_before, dropped_versions, own_versions, undropped_versions}
 use Rattle.ctr_names.proofs.Entries.{InPairs, all_sorted, filter_twice, is_in_yet, is_out, left_same, numbered, picked_same}
 use Rattle.ctr_names.proofs.Items.{further}

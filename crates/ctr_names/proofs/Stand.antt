@@ -4,17 +4,17 @@ use Rattle.std.specs.Prelude.{is_some, unwrap_or, ◌&&◌}
 use Rattle.std.proofs.Math.Bool.{and-false}
 use Rattle.std.proofs.lemmas.Bool.{cases_eq, cases_lt, eq-eqb, eqb-true, false≢true, le-leb}
 use Rattle.std.proofs.lemmas.Map.{update_apart, update_here}
-use Rattle.ctr_versions.specs.Chains.{Numbers, by, is_by}
-use Rattle.ctr_versions.proofs.Asked.{early_by}
-use Rattle.ctr_versions.proofs.Chains.{with_number}
-use Rattle.ctr_versions.proofs.Keys.{known}
-use Rattle.ctr_versions.proofs.Opened.{IsOpened}
-use Rattle.ctr_meta.specs.Effects.{committed, forgotten_by, rolled_back}
-use Rattle.ctr_meta.specs.Tables.{Tables, is_in}
-use Rattle.ctr_area.specs.Areas.{Area, Title}
-use Rattle.ctr_area.specs.Changes.{with_title}
-use Rattle.ctr_area.specs.Images.{is_committed_in, is_live, is_standing}
-use Rattle.ctr_area.specs.Sound.{IsOneOf, IsSchemaItem, IsSoundArea}
+use Rattle.ctr_record_laws.specs.versions_Chains.{Numbers, by, is_by}
+use Rattle.ctr_record_laws.proofs.versions_Asked.{early_by}
+use Rattle.ctr_record_laws.proofs.versions_Chains.{with_number}
+use Rattle.ctr_record_laws.proofs.versions_Keys.{known}
+use Rattle.ctr_record_laws.proofs.versions_Opened.{IsOpened}
+use Rattle.ctr_record_laws.specs.meta_Effects.{committed, forgotten_by, rolled_back}
+use Rattle.ctr_record_laws.specs.meta_Tables.{Tables, is_in}
+use Rattle.ctr_record_laws.specs.area_Areas.{Area, Title}
+use Rattle.ctr_record_laws.specs.area_Changes.{with_title}
+use Rattle.ctr_record_laws.specs.area_Images.{is_committed_in, is_live, is_standing}
+use Rattle.ctr_record_laws.specs.area_Sound.{IsOneOf, IsSchemaItem, IsSoundArea}
 use Rattle.ctr_record_laws.specs.Owed.{AgreeOnCommits, OwedByAbort, OwedByCommit}
 use Rattle.ctr_record_laws.proofs.Abort.{abort_agrees}
 use Rattle.ctr_record_laws.proofs.Commit.{commit_sound}

@@ -3,18 +3,18 @@ use Rattle.std.proofs.Common.{◌≡◌, ⊎_elim, ◌⊎◌, ℕ, ◌<◌, Bool
 use Rattle.std.specs.Option.{option_or}
 use Rattle.std.specs.Prelude.{is_some, nat_lt}
 use Rattle.std.proofs.lemmas.Bool.{false≢true, ltb-true, or_cases, or_parts}
-use Rattle.ctr_model.specs.declared.state.State.{State}
-use Rattle.ctr_versions.specs.Chains.{AllTold, IsChangeTold, Numbers, above, changed_since, newest, newest_since}
-use Rattle.ctr_versions.specs.Engine.{IsSeenIfOld}
-use Rattle.ctr_versions.specs.Keys.{schema_writes}
-use Rattle.ctr_versions.specs.Versions.{schemas}
-use Rattle.ctr_versions.specs.Xids.{Xids, number_of}
-use Rattle.ctr_versions.proofs.Undoing.{newest_schemas}
-use Rattle.ctr_meta.specs.Seen.{xid_is_changed}
-use Rattle.ctr_meta.specs.Tables.{Tables}
-use Rattle.ctr_area.specs.Areas.{Area}
-use Rattle.ctr_area.specs.Images.{is_committed_in, is_live, is_named_so, name_chain}
-use Rattle.ctr_area.specs.Sound.{IsSoundArea}
+use Rattle.ctr_record_laws.specs.model_declared_state_State.{State}
+use Rattle.ctr_record_laws.specs.versions_Chains.{AllTold, IsChangeTold, Numbers, above, changed_since, newest, newest_since}
+use Rattle.ctr_record_laws.specs.versions_Engine.{IsSeenIfOld}
+use Rattle.ctr_record_laws.specs.versions_Keys.{schema_writes}
+use Rattle.ctr_record_laws.specs.versions_Versions.{schemas}
+use Rattle.ctr_record_laws.specs.versions_Xids.{Xids, number_of}
+use Rattle.ctr_record_laws.proofs.versions_Undoing.{newest_schemas}
+use Rattle.ctr_record_laws.specs.meta_Seen.{xid_is_changed}
+use Rattle.ctr_record_laws.specs.meta_Tables.{Tables}
+use Rattle.ctr_record_laws.specs.area_Areas.{Area}
+use Rattle.ctr_record_laws.specs.area_Images.{is_committed_in, is_live, is_named_so, name_chain}
+use Rattle.ctr_record_laws.specs.area_Sound.{IsSoundArea}
 use Rattle.ctr_names.specs.Search.{IsLooking, Looker, ShowsNames, is_changed_for}
 use Rattle.ctr_names.proofs.Chains.{AreAllBy, Version, entries_in, name_by}
 use Rattle.ctr_names.proofs.Entries.{named_so}

@@ -4,19 +4,19 @@ use Rattle.std.specs.List.{filter}
 use Rattle.std.specs.Prelude.{◌&&◌}
 use Rattle.std.proofs.Math.Bool.{and-false}
 use Rattle.std.proofs.lemmas.Bool.{false≢true}
-use Rattle.ctr_model.specs.State.{same_name}
-use Rattle.ctr_versions.specs.Versions.{Made, NamesSet, names_at}
-use Rattle.ctr_rec.specs.declared.record.SlogItem.{SlogItem}
-use Rattle.ctr_rec.specs.declared.record.SlogItem.TheVariants.{CreateOf, DropOf}
-use Rattle.ctr_meta.specs.Effects.{without_item}
-use Rattle.ctr_meta.specs.Items.{is_item_by}
-use Rattle.ctr_meta.specs.Tables.{Tables}
-use Rattle.ctr_meta.specs.declared.items.Wanted.{Wanted}
-use Rattle.ctr_meta.specs.declared.items.Wanted.TheVariants.{Creation, Dropping}
-use Rattle.ctr_area.specs.Areas.{Area, Title}
-use Rattle.ctr_area.specs.Changes.{with_title}
-use Rattle.ctr_area.specs.Images.{is_committed_in, is_live, is_named_so, name_chain, versions_in}
-use Rattle.ctr_area.specs.Sound.{IsAmong, IsSchemaItem, IsSoundArea, xids_in}
+use Rattle.ctr_record_laws.specs.model_State.{same_name}
+use Rattle.ctr_record_laws.specs.versions_Versions.{Made, NamesSet, names_at}
+use Rattle.ctr_record_laws.specs.rec_SlogItem.{SlogItem}
+use Rattle.ctr_record_laws.specs.rec_SlogItem.TheVariants.{CreateOf, DropOf}
+use Rattle.ctr_record_laws.specs.meta_Effects.{without_item}
+use Rattle.ctr_record_laws.specs.meta_Items.{is_item_by}
+use Rattle.ctr_record_laws.specs.meta_Tables.{Tables}
+use Rattle.ctr_record_laws.specs.meta_Wanted.{Wanted}
+use Rattle.ctr_record_laws.specs.meta_Wanted.TheVariants.{Creation, Dropping}
+use Rattle.ctr_record_laws.specs.area_Areas.{Area, Title}
+use Rattle.ctr_record_laws.specs.area_Changes.{with_title}
+use Rattle.ctr_record_laws.specs.area_Images.{is_committed_in, is_live, is_named_so, name_chain, versions_in}
+use Rattle.ctr_record_laws.specs.area_Sound.{IsAmong, IsSchemaItem, IsSoundArea, xids_in}
 use Rattle.ctr_record_laws.specs.Bounds.{IsInBounds}
 use Rattle.ctr_record_laws.specs.Owed.{IsNameFreeFor, OwedByUncreate, OwedByUndrop}
 use Rattle.ctr_record_laws.proofs.Latest.{by_title, live_open, title_apart, title_here}

@@ -4,14 +4,14 @@ use Rattle.std.specs.List.{AllByRecursion}
 use Rattle.std.specs.Prelude.{nat_lt, ◌&&◌}
 use Rattle.std.proofs.Math.Bool.{and-false}
 use Rattle.std.proofs.lemmas.Bool.{and_parts, le-ltb, ltb-true}
-use Rattle.ctr_versions.specs.Chains.{AllCommitted, Behind, IsCommitted, Numbers}
-use Rattle.ctr_versions.specs.Engine.{AreBy, IsBy, IsDrawn}
-use Rattle.ctr_versions.specs.Versions.{names_at, rows_of, schema_version, schemas}
-use Rattle.ctr_meta.specs.Tables.{Tables, is_in}
-use Rattle.ctr_area.specs.Areas.{Area}
-use Rattle.ctr_area.specs.Chains.{chain_of}
-use Rattle.ctr_area.specs.Images.{is_committed_in, is_live, name_chain, versions_in}
-use Rattle.ctr_area.specs.Sound.{IsAmong, IsSchemaItem, IsSoundArea, xids_in}
+use Rattle.ctr_record_laws.specs.versions_Chains.{AllCommitted, Behind, IsCommitted, Numbers}
+use Rattle.ctr_record_laws.specs.versions_Engine.{AreBy, IsBy, IsDrawn}
+use Rattle.ctr_record_laws.specs.versions_Versions.{names_at, rows_of, schema_version, schemas}
+use Rattle.ctr_record_laws.specs.meta_Tables.{Tables, is_in}
+use Rattle.ctr_record_laws.specs.area_Areas.{Area}
+use Rattle.ctr_record_laws.specs.area_Chains.{chain_of}
+use Rattle.ctr_record_laws.specs.area_Images.{is_committed_in, is_live, name_chain, versions_in}
+use Rattle.ctr_record_laws.specs.area_Sound.{IsAmong, IsSchemaItem, IsSoundArea, xids_in}
 use Rattle.ctr_record_laws.specs.Owed.{AgreeOnCommits}
 use Rattle.ctr_record_laws.proofs.Heads.{listed_drawn}
 use Rattle.ctr_record_laws.proofs.Latest.{live_open, live_some}

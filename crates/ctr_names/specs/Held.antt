@@ -2,15 +2,15 @@
 use Rattle.std.specs.Prelude.{◌≡◌, ◌⊎◌, ℕ, true, List, [], ◌∷◌, Some}
 use Rattle.std.specs.Ordering.{nat_cmp}
 use Rattle.std.specs.FinMap.Entries.{find}
-use Rattle.ctr_rec.specs.declared.record.SlogItem.{SlogItem}
-use Rattle.ctr_rec.specs.declared.record.SlogItem.TheVariants.{AllocOf, FreeOf, CreateOf, DropOf}
-use Rattle.ctr_model.specs.declared.state.State.{State}
-use Rattle.ctr_model.specs.declared.state.Transaction.{Transaction}
-use Rattle.ctr_model.specs.State.{has_name}
-use Rattle.ctr_versions.specs.Engine.{SessionHeld}
-use Rattle.ctr_versions.specs.Laws.{IsNoSessions}
-use Rattle.ctr_area.specs.Areas.{Title}
-use Rattle.ctr_area.specs.Sound.{IsSchemaItem}
+use Rattle.ctr_record_laws.specs.rec_SlogItem.{SlogItem}
+use Rattle.ctr_record_laws.specs.rec_SlogItem.TheVariants.{AllocOf, FreeOf, CreateOf, DropOf}
+use Rattle.ctr_record_laws.specs.model_declared_state_State.{State}
+use Rattle.ctr_record_laws.specs.model_Transaction.{Transaction}
+use Rattle.ctr_record_laws.specs.model_State.{has_name}
+use Rattle.ctr_record_laws.specs.versions_Engine.{SessionHeld}
+use Rattle.ctr_record_laws.specs.versions_Laws.{IsNoSessions}
+use Rattle.ctr_record_laws.specs.area_Areas.{Title}
+use Rattle.ctr_record_laws.specs.area_Sound.{IsSchemaItem}
 
 -- a session has this number, and its transaction holds the name
 pub record IsNameHeldBy (sessions : List (ℕ × SessionHeld)) (state : State) (y : ℕ) (name : List ℕ)

@@ -1,18 +1,18 @@
 -- What a session finds in the catalog, and what it stands on there.
 use Rattle.std.specs.Prelude.{◌≡◌, ℕ, ◌<◌, ◌==◌, Bool, true, false, ◌&&◌, ◌||◌, not, List, Option, Some, None}
-use Rattle.ctr_model.specs.declared.state.State.{State}
-use Rattle.ctr_model.specs.declared.state.Transaction.{Transaction}
+use Rattle.ctr_record_laws.specs.model_declared_state_State.{State}
+use Rattle.ctr_record_laws.specs.model_Transaction.{Transaction}
 use Rattle.ctr_snap.specs.Seeing.{SnapshotTaken}
-use Rattle.ctr_versions.specs.Chains.{changed_since}
-use Rattle.ctr_versions.specs.Keys.{schema_writes}
-use Rattle.ctr_versions.specs.Xids.{Xids, number_of}
-use Rattle.ctr_versions.specs.Versions.{VersionsStand, IsOrdered}
-use Rattle.ctr_versions.specs.Engine.{SessionHeld, session_sees, IsCalm, ShowsSession}
-use Rattle.ctr_meta.specs.Tables.{Tables}
-use Rattle.ctr_meta.specs.Seen.{xid_is_changed}
-use Rattle.ctr_area.specs.Areas.{Area, Title}
-use Rattle.ctr_area.specs.Images.{is_committed_in, is_named_so, is_standing, versions_in}
-use Rattle.ctr_area.specs.Sound.{IsSchemaItem, xids_in}
+use Rattle.ctr_record_laws.specs.versions_Chains.{changed_since}
+use Rattle.ctr_record_laws.specs.versions_Keys.{schema_writes}
+use Rattle.ctr_record_laws.specs.versions_Xids.{Xids, number_of}
+use Rattle.ctr_record_laws.specs.versions_Versions.{VersionsStand, IsOrdered}
+use Rattle.ctr_record_laws.specs.versions_Engine.{SessionHeld, session_sees, IsCalm, ShowsSession}
+use Rattle.ctr_record_laws.specs.meta_Tables.{Tables}
+use Rattle.ctr_record_laws.specs.meta_Seen.{xid_is_changed}
+use Rattle.ctr_record_laws.specs.area_Areas.{Area, Title}
+use Rattle.ctr_record_laws.specs.area_Images.{is_committed_in, is_named_so, is_standing, versions_in}
+use Rattle.ctr_record_laws.specs.area_Sound.{IsSchemaItem, xids_in}
 use Rattle.ctr_names.specs.Stand.{NamesStand}
 
 -- The transactions of an engine are those of tables.

@@ -1,9 +1,9 @@
 -- What the chain of a name is to the transaction that has the name.
 use Rattle.std.specs.Prelude.{◌≡◌, ◌⊎◌, ◌&&◌, nat_lt, ℕ, Bool, true, List, ◌∷◌, Option}
 use Rattle.std.specs.List.{AllByRecursion}
-use Rattle.ctr_versions.specs.Versions.{Made, Versions, names_at, NamesSet}
-use Rattle.ctr_meta.specs.Tables.{Tables}
-use Rattle.ctr_area.specs.Images.{is_committed_in}
+use Rattle.ctr_record_laws.specs.versions_Versions.{Made, Versions, names_at, NamesSet}
+use Rattle.ctr_record_laws.specs.meta_Tables.{Tables}
+use Rattle.ctr_record_laws.specs.area_Images.{is_committed_in}
 
 -- all versions are by transactions that pass
 abbrev pub AllVersionsPass : (ℕ → Bool) → List (ℕ × Option Made) → Type 0

@@ -1,10 +1,10 @@
 -- Tables of one name over time.
 use Rattle.std.specs.Prelude.{◌≡◌, ℕ, ◌+◌, ◌≤◌, ◌<◌, true, Some, None}
-use Rattle.ctr_versions.specs.Chains.{Numbers, by}
-use Rattle.ctr_meta.specs.Tables.{Tables}
-use Rattle.ctr_area.specs.Areas.{Title}
-use Rattle.ctr_area.specs.Images.{is_committed_in, is_live, is_standing}
-use Rattle.ctr_area.specs.Sound.{IsOneOf}
+use Rattle.ctr_record_laws.specs.versions_Chains.{Numbers, by}
+use Rattle.ctr_record_laws.specs.meta_Tables.{Tables}
+use Rattle.ctr_record_laws.specs.area_Areas.{Title}
+use Rattle.ctr_record_laws.specs.area_Images.{is_committed_in, is_live, is_standing}
+use Rattle.ctr_record_laws.specs.area_Sound.{IsOneOf}
 
 -- From the low number on at most one table of each name stands at each number; and of two drops of
 -- a name the later one, by its transaction, has no lower commit number.

@@ -2,17 +2,17 @@
 ghost use Rattle.std.specs.Prelude.{◌≡◌, ◌⊎◌, ◌==◌, ◌<◌, ◌++◌, ◌∷◌, [], ℕ, true, false, List, Some, None};
 ghost use Rattle.std.specs.Ordering.{nat_cmp};
 ghost use Rattle.std.specs.FinMap.Entries.{find, put};
-ghost use Rattle.ctr_rec.specs.declared.record.SlogItem.{SlogItem};
-ghost use Rattle.ctr_model.specs.declared.state.State.{State};
-ghost use Rattle.ctr_model.specs.declared.state.Transaction.{Transaction};
-ghost use Rattle.ctr_model.specs.Database.{Database};
-ghost use Rattle.ctr_model.specs.Maps.{without};
-ghost use Rattle.ctr_model.specs.State.{has_name, with_transaction, at_rest};
-ghost use Rattle.ctr_model.specs.Reply.{without_name};
-ghost use Rattle.ctr_versions.specs.Engine.{SessionHeld};
-ghost use Rattle.ctr_versions.specs.Laws.{IsNoSessions};
-ghost use Rattle.ctr_area.specs.Areas.{Title};
-ghost use Rattle.ctr_area.specs.Sound.{IsSchemaItem};
+ghost use Rattle.ctr_record_laws.specs.rec_SlogItem.{SlogItem};
+ghost use Rattle.ctr_record_laws.specs.model_declared_state_State.{State};
+ghost use Rattle.ctr_record_laws.specs.model_Transaction.{Transaction};
+ghost use Rattle.ctr_record_laws.specs.model_Database.{Database};
+ghost use Rattle.ctr_record_laws.specs.model_Maps.{without};
+ghost use Rattle.ctr_record_laws.specs.model_State.{has_name, with_transaction, at_rest};
+ghost use Rattle.ctr_record_laws.specs.model_Reply.{without_name};
+ghost use Rattle.ctr_record_laws.specs.versions_Engine.{SessionHeld};
+ghost use Rattle.ctr_record_laws.specs.versions_Laws.{IsNoSessions};
+ghost use Rattle.ctr_record_laws.specs.area_Areas.{Title};
+ghost use Rattle.ctr_record_laws.specs.area_Sound.{IsSchemaItem};
 ghost use Rattle.ctr_record_laws.specs.Owed.{IsNameFreeFor};
 ghost use Rattle.ctr_names.specs.Held.{IsNameHeldBy, HoldsNames, names_of_items, HaveSameTables, KeepNames};
 

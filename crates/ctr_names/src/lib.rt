@@ -8,6 +8,10 @@ mod owners;
 mod records;
 mod standing;
 
+pub use ctr_record_laws::{
+    BadPage, CatalogEntry, EntryState, Meta, check_entry, is_changed, is_seen, make_entry,
+    read_entry,
+};
 pub use finding::{
     a_held_name_can_be_made_or_dropped, the_view_has_what_is_found, what_a_session_finds_is_shown,
     what_stands_at_a_number_is_shown, who_changed_a_name_is_told,

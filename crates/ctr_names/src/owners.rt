@@ -1,15 +1,15 @@
 // What the versions of a sound area are, and the chain of a name to the transaction that has the name.
 ghost use Rattle.std.specs.Prelude.{◌≡◌, ◌⊎◌, ◌<◌, ℕ, Bool, false, List};
-ghost use Rattle.ctr_model.specs.State.{same_name};
-ghost use Rattle.ctr_versions.specs.Chains.{Numbers};
-ghost use Rattle.ctr_versions.specs.Versions.{names_at, database_seen, IsOrdered, HaveOwnTables, NamesSet};
-ghost use Rattle.ctr_versions.specs.Engine.{AreBy, IsDrawn};
-ghost use Rattle.ctr_versions.specs.Heads.{OnlyHeadsAreOpen};
-ghost use Rattle.ctr_meta.specs.Tables.{Tables};
-ghost use Rattle.ctr_area.specs.Areas.{Title, Area};
-ghost use Rattle.ctr_area.specs.Changes.{with_title};
-ghost use Rattle.ctr_area.specs.Images.{is_committed_in, is_named_so, name_chain, versions_in, image_rows};
-ghost use Rattle.ctr_area.specs.Sound.{IsSoundArea, IsSchemaItem};
+ghost use Rattle.ctr_record_laws.specs.model_State.{same_name};
+ghost use Rattle.ctr_record_laws.specs.versions_Chains.{Numbers};
+ghost use Rattle.ctr_record_laws.specs.versions_Versions.{names_at, database_seen, IsOrdered, HaveOwnTables, NamesSet};
+ghost use Rattle.ctr_record_laws.specs.versions_Engine.{AreBy, IsDrawn};
+ghost use Rattle.ctr_record_laws.specs.versions_Heads.{OnlyHeadsAreOpen};
+ghost use Rattle.ctr_record_laws.specs.meta_Tables.{Tables};
+ghost use Rattle.ctr_record_laws.specs.area_Areas.{Title, Area};
+ghost use Rattle.ctr_record_laws.specs.area_Changes.{with_title};
+ghost use Rattle.ctr_record_laws.specs.area_Images.{is_committed_in, is_named_so, name_chain, versions_in, image_rows};
+ghost use Rattle.ctr_record_laws.specs.area_Sound.{IsSoundArea, IsSchemaItem};
 ghost use Rattle.ctr_record_laws.specs.Owed.{AgreeOnCommits, IsNameFreeFor};
 ghost use Rattle.ctr_names.specs.Shape.{HasOwnInFront};
 

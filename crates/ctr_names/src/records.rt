@@ -1,16 +1,16 @@
 // What each record on the catalog and on a transaction is to the chains of names.
 ghost use Rattle.std.specs.Prelude.{◌≡◌, ◌<◌, ℕ, Bool, true, Some, None, List};
 ghost use Rattle.ctr_types.specs.declared.value.Column.{Column};
-ghost use Rattle.ctr_versions.specs.Chains.{Numbers};
-ghost use Rattle.ctr_versions.specs.Changes.{write, IsOld};
-ghost use Rattle.ctr_versions.specs.Versions.{names_at, NamesSet, IsUnmadeTable};
-ghost use Rattle.ctr_versions.specs.Undoing.{ShowsTheSame};
-ghost use Rattle.ctr_meta.specs.Tables.{Tables, is_in};
-ghost use Rattle.ctr_meta.specs.Effects.{opened_by, committed, rolled_back, forgotten_by};
-ghost use Rattle.ctr_area.specs.Areas.{Title, Area, no_pages};
-ghost use Rattle.ctr_area.specs.Changes.{with_title, new_title, empty_chains, ChangesEntry};
-ghost use Rattle.ctr_area.specs.Images.{is_committed_in, made_by_entry, versions_in};
-ghost use Rattle.ctr_area.specs.Sound.{IsSoundArea};
+ghost use Rattle.ctr_record_laws.specs.versions_Chains.{Numbers};
+ghost use Rattle.ctr_record_laws.specs.versions_Changes.{write, IsOld};
+ghost use Rattle.ctr_record_laws.specs.versions_Versions.{names_at, NamesSet, IsUnmadeTable};
+ghost use Rattle.ctr_record_laws.specs.versions_Undoing.{ShowsTheSame};
+ghost use Rattle.ctr_record_laws.specs.meta_Tables.{Tables, is_in};
+ghost use Rattle.ctr_record_laws.specs.meta_Effects.{opened_by, committed, rolled_back, forgotten_by};
+ghost use Rattle.ctr_record_laws.specs.area_Areas.{Title, Area, no_pages};
+ghost use Rattle.ctr_record_laws.specs.area_Changes.{with_title, new_title, empty_chains, ChangesEntry};
+ghost use Rattle.ctr_record_laws.specs.area_Images.{is_committed_in, made_by_entry, versions_in};
+ghost use Rattle.ctr_record_laws.specs.area_Sound.{IsSoundArea};
 ghost use Rattle.ctr_record_laws.specs.Bounds.{IsInBounds};
 ghost use Rattle.ctr_record_laws.specs.Owed.{AgreeOnCommits, OwedByCreate, OwedByDrop, OwedByUncreate, OwedByUndrop, OwedByDying, OwedByFreeing, OwedByAbort, OwedByCommit};
 ghost use Rattle.ctr_names.specs.Shape.{LosesOwn, below_in};

@@ -1,12 +1,12 @@
 // At each number at most one table of a name stands, and later drops have no lower numbers.
 ghost use Rattle.std.specs.Prelude.{◌≡◌, ◌⊎◌, ◌+◌, ◌≤◌, ℕ, true, false, Some, None};
-ghost use Rattle.ctr_versions.specs.Chains.{Numbers};
-ghost use Rattle.ctr_meta.specs.Tables.{Tables, is_in};
-ghost use Rattle.ctr_meta.specs.Effects.{committed, rolled_back, forgotten_by};
-ghost use Rattle.ctr_area.specs.Areas.{Title, Area};
-ghost use Rattle.ctr_area.specs.Changes.{with_title};
-ghost use Rattle.ctr_area.specs.Images.{is_committed_in, is_live};
-ghost use Rattle.ctr_area.specs.Sound.{IsSoundArea};
+ghost use Rattle.ctr_record_laws.specs.versions_Chains.{Numbers};
+ghost use Rattle.ctr_record_laws.specs.meta_Tables.{Tables, is_in};
+ghost use Rattle.ctr_record_laws.specs.meta_Effects.{committed, rolled_back, forgotten_by};
+ghost use Rattle.ctr_record_laws.specs.area_Areas.{Title, Area};
+ghost use Rattle.ctr_record_laws.specs.area_Changes.{with_title};
+ghost use Rattle.ctr_record_laws.specs.area_Images.{is_committed_in, is_live};
+ghost use Rattle.ctr_record_laws.specs.area_Sound.{IsSoundArea};
 ghost use Rattle.ctr_record_laws.specs.Owed.{AgreeOnCommits, OwedByCommit, OwedByAbort};
 ghost use Rattle.ctr_names.specs.Stand.{NamesStand, IsDropNewer, HasNext, StaysWithCommits};
 

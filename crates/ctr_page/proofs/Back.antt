@@ -6,8 +6,8 @@ use Rattle.std.specs.Int.{w64, cast_unsigned, cast_signed}
 use Rattle.std.proofs.Math.Facts.{Fits-of_z}
 use Rattle.std.proofs.lemmas.Int.{to_z-of_z}
 use Rattle.std.proofs.lemmas.List.{take_at, drop_at, length-replicate}
-use Rattle.ctr_bytes.specs.Fields.{spelled, field}
-use Rattle.ctr_bytes.proofs.FieldLaws.{length-spelled}
+use Rattle.ctr_rec.specs.bytes_Fields.{spelled, field}
+use Rattle.ctr_rec.proofs.bytes_FieldLaws.{length-spelled}
 use Rattle.ctr_rec.proofs.Laws.{Begins, begins_less, field_last}
 use Rattle.ctr_page.specs.declared.header.Header.{Header}
 use Rattle.ctr_page.specs.declared.rows.Place.{Place}

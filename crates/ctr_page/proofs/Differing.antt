@@ -2,12 +2,12 @@
 use Rattle.std.proofs.Common.{ℕ, zero, suc, ◌+◌, ◌-◌, eqb, ltb, List, [], ◌∷◌, Result, Ok, Err, arith}
 use Rattle.std.specs.Prelude.{⊤}
 use Rattle.std.proofs.lemmas.Bool.{ltb-true}
-use Rattle.ctr_bytes.specs.Fields.{field}
-use Rattle.ctr_types.specs.declared.value.Kind.{Kind}
-use Rattle.ctr_types.specs.declared.value.Kind.TheVariants.{Int, Chars}
+use Rattle.ctr_rec.specs.bytes_Fields.{field}
+use Rattle.ctr_rec.specs.types_Kind.{Kind}
+use Rattle.ctr_rec.specs.types_Kind.TheVariants.{Int, Chars}
 use Rattle.ctr_value.specs.Payload.{field_width}
 use Rattle.ctr_rec.specs.declared.decoding.BadRecord.{BadRecord}
-use Rattle.ctr_bytes.specs.Following.{◌>>=◌}
+use Rattle.ctr_rec.specs.bytes_Following.{◌>>=◌}
 use Rattle.ctr_rec.specs.Damage.{wrong, expect, at_most}
 use Rattle.ctr_rec.proofs.Forms.{Fair, fair_bind, fair_expect, fair_if, fair_both}
 use Rattle.ctr_page.specs.declared.checks.Chain.{Chain}

@@ -3,12 +3,12 @@ use Rattle.std.proofs.Common.{◌≡◌, ℕ, zero, suc, ◌+◌, ◌-◌, ◌*�
 use Rattle.std.specs.List.{flat_map, AllByRecursion}
 use Rattle.std.proofs.lemmas.Bool.{ne_eqb}
 use Rattle.std.proofs.lemmas.List.{length-replicate}
-use Rattle.ctr_types.specs.declared.value.Column.{Column}
-use Rattle.ctr_types.specs.declared.value.Kind.{Kind}
-use Rattle.ctr_types.specs.declared.value.Kind.TheVariants.{Int, Chars}
-use Rattle.ctr_types.specs.Names.{IsName}
-use Rattle.ctr_bytes.specs.Fields.{spelled, field}
-use Rattle.ctr_bytes.proofs.FieldLaws.{length-spelled}
+use Rattle.ctr_rec.specs.types_Column.{Column}
+use Rattle.ctr_rec.specs.types_Kind.{Kind}
+use Rattle.ctr_rec.specs.types_Kind.TheVariants.{Int, Chars}
+use Rattle.ctr_rec.specs.types_Names.{IsName}
+use Rattle.ctr_rec.specs.bytes_Fields.{spelled, field}
+use Rattle.ctr_rec.proofs.bytes_FieldLaws.{length-spelled}
 use Rattle.ctr_rec.proofs.Laws.{Begins, begins_less, field_last}
 use Rattle.ctr_value.specs.Columns.{KindFits, ColumnFits, ColumnsFit, zeros, kind_number, column_bytes}
 use Rattle.ctr_page.specs.Columns.{name_in, kind_said, columns_from, columns_in, table_name_in, text_bytes, columns_bytes, new_entry_bytes}

@@ -6,18 +6,18 @@ use Rattle.std.proofs.Math.Facts.{sfits_to_z}
 use Rattle.std.proofs.lemmas.Int.{of_z-to_z}
 use Rattle.std.proofs.lemmas.Bool.{ltb-false, eq-eqb, ne_eqb, cases_Bool}
 use Rattle.std.proofs.lemmas.List.{drop-take, drop-drop, take-take, length-take-le, length-drop}
-use Rattle.ctr_types.specs.declared.value.Column.{Column}
-use Rattle.ctr_types.specs.declared.value.Kind.{Kind}
-use Rattle.ctr_types.specs.declared.value.Kind.TheVariants as kind
-use Rattle.ctr_types.specs.declared.value.Value.TheVariants as value
-use Rattle.ctr_bytes.specs.Fields.{spelled, field}
-use Rattle.ctr_bytes.proofs.FieldLaws.{AreBytes, field-append, field-drop, field_fits, spelled_field, got_byte, side}
+use Rattle.ctr_rec.specs.types_Column.{Column}
+use Rattle.ctr_rec.specs.types_Kind.{Kind}
+use Rattle.ctr_rec.specs.types_Kind.TheVariants as kind
+use Rattle.ctr_rec.specs.types_Value_TheVariants as value
+use Rattle.ctr_rec.specs.bytes_Fields.{spelled, field}
+use Rattle.ctr_rec.proofs.bytes_FieldLaws.{AreBytes, field-append, field-drop, field_fits, spelled_field, got_byte, side}
 use Rattle.ctr_value.specs.Payload.{IsOf, AreOf, IsKeyed, field_width, width, IsField, IsPayload, IsRowOf}
 use Rattle.ctr_value.specs.Values.{value_said, values_in, row_values}
 pub use Rattle.ctr_value.proofs.PayloadLaws.{kinds_wide}
 use Rattle.ctr_value.proofs.PayloadLoops.{text_found}
 use Rattle.ctr_rec.specs.declared.decoding.BadRecord.{BadRecord}
-use Rattle.ctr_bytes.specs.Following.{◌>>=◌}
+use Rattle.ctr_rec.specs.bytes_Following.{◌>>=◌}
 use Rattle.ctr_rec.specs.Damage.{wrong, at_most}
 use Rattle.ctr_rec.proofs.Reading.{guard_ok}
 use Rattle.ctr_page.specs.Places.{has_previous, previous_at, pointer_at, kept_pointer_at, slot_size, kept_size}

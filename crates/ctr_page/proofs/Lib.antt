@@ -6,3 +6,4 @@ pub mod Passing
 pub mod Differing
 pub mod Searches
 pub use Rattle.ctr_rec.proofs as ctr_rec
+pub use Rattle.ctr_rec.proofs.bytes_FieldLaws as bytes_FieldLaws

@@ -1,7 +1,7 @@
 -- What checks that pass say, and that damage is where two numbers differ.
 use Rattle.std.proofs.Common.{◌≡◌, ◌≢◌, ℕ, ◌≤◌, eqb, ltb, List, Ok, sym, arith}
 use Rattle.std.proofs.lemmas.Bool.{eqb-false, ltb-false}
-use Rattle.ctr_bytes.specs.Fields.{field}
+use Rattle.ctr_rec.specs.bytes_Fields.{field}
 use Rattle.ctr_rec.specs.Damage.{wrong, at_most}
 use Rattle.ctr_rec.proofs.Reading.{guard_ok}
 use Rattle.ctr_page.specs.Damage.{from_1_check}

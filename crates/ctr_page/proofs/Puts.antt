@@ -4,8 +4,8 @@ use Rattle.std.specs.Prelude.{FitsSigned}
 use Rattle.std.specs.Int.{cast_unsigned}
 use Rattle.std.proofs.lemmas.Int.{to_z-of_z}
 use Rattle.std.proofs.lemmas.List.{append-nil, take_at, drop_at, drop-drop, length-take-le}
-use Rattle.ctr_bytes.specs.Fields.{spelled, with_field}
-use Rattle.ctr_bytes.proofs.FieldLaws.{length-spelled, length-with_field}
+use Rattle.ctr_rec.specs.bytes_Fields.{spelled, with_field}
+use Rattle.ctr_rec.proofs.bytes_FieldLaws.{length-spelled, length-with_field}
 use Rattle.ctr_rec.proofs.Laws.{put_more}
 use Rattle.ctr_page.specs.Places.{start_of}
 use Rattle.ctr_page.specs.Reading.{piece}

@@ -1,10 +1,10 @@
 -- Entries of the catalog: what their bytes say, and the bytes of a new one.
 use Rattle.std.specs.Prelude.{◌≡◌, ℕ, zero, suc, ◌+◌, ◌-◌, ◌*◌, List, [], ◌∷◌, ◌++◌, map, length, drop, replicate, ◌==◌, if◌then◌else◌}
 use Rattle.std.specs.List.{flat_map}
-use Rattle.ctr_types.specs.declared.value.Column.{Column}
-use Rattle.ctr_types.specs.declared.value.Kind.{Kind}
-use Rattle.ctr_types.specs.declared.value.Kind.TheVariants.{Int, Chars}
-use Rattle.ctr_bytes.specs.Fields.{spelled, field}
+use Rattle.ctr_rec.specs.types_Column.{Column}
+use Rattle.ctr_rec.specs.types_Kind.{Kind}
+use Rattle.ctr_rec.specs.types_Kind.TheVariants.{Int, Chars}
+use Rattle.ctr_rec.specs.bytes_Fields.{spelled, field}
 pub use Rattle.ctr_value.specs.Payload.{kinds_width}
 use Rattle.ctr_value.specs.Columns.{column_bytes}
 use Rattle.ctr_page.specs.declared.entry.CatalogEntry.{CatalogEntry}

@@ -1,11 +1,11 @@
 -- What is wrong on a page: the first check that fails, in this order. A place is a byte of the page.
 use Rattle.std.specs.Prelude.{◌≢◌, ℕ, zero, suc, ◌+◌, ◌-◌, List, [], ◌∷◌, Result, Ok, Err, IfErr, ◌==◌, if◌then◌else◌, ⊤}
-use Rattle.ctr_types.specs.declared.value.Kind.{Kind}
-use Rattle.ctr_types.specs.declared.value.Kind.TheVariants.{Int, Chars}
-use Rattle.ctr_bytes.specs.Fields.{field}
+use Rattle.ctr_rec.specs.types_Kind.{Kind}
+use Rattle.ctr_rec.specs.types_Kind.TheVariants.{Int, Chars}
+use Rattle.ctr_rec.specs.bytes_Fields.{field}
 use Rattle.ctr_value.specs.Payload.{field_width}
 use Rattle.ctr_rec.specs.declared.decoding.BadRecord.{BadRecord}
-use Rattle.ctr_bytes.specs.Following.{◌>>=◌}
+use Rattle.ctr_rec.specs.bytes_Following.{◌>>=◌}
 use Rattle.ctr_rec.specs.Damage.{wrong, expect, at_most}
 use Rattle.ctr_page.specs.declared.checks.Chain.{Chain}
 use Rattle.ctr_page.specs.declared.checks.Chain.TheVariants.{Rows, Versions}

@@ -1,7 +1,7 @@
 -- The bytes of what stands on a page, and what has bytes.
 use Rattle.std.specs.Prelude.{◌≡◌, ℕ, ◌+◌, ◌^◌, ◌<◌, true, FitsSigned, List, [], ◌++◌, length, drop, replicate, Option, None, Some, if◌then◌else◌}
 use Rattle.std.specs.Int.{w64, cast_unsigned}
-use Rattle.ctr_bytes.specs.Fields.{spelled}
+use Rattle.ctr_rec.specs.bytes_Fields.{spelled}
 use Rattle.ctr_page.specs.declared.header.Header.{Header}
 use Rattle.ctr_page.specs.declared.rows.Place.{Place}
 use Rattle.ctr_page.specs.declared.rows.Version.{Version}

@@ -1,10 +1,10 @@
 -- What can be read where no check fails: which rows stand in a slot or a version entry, by the
 -- columns of their table, and the parts of an entry of the catalog.
 use Rattle.std.specs.Prelude.{◌≡◌, ◌≢◌, ℕ, zero, suc, ◌+◌, ◌<◌, ◌≤◌, ℤ, List, IfSome}
-use Rattle.ctr_types.specs.declared.value.Column.{Column}
+use Rattle.ctr_rec.specs.types_Column.{Column}
 use Rattle.ctr_value.specs.Payload.{IsRowOf}
 use Rattle.ctr_value.specs.Values.{row_values}
-use Rattle.ctr_bytes.specs.Fields.{field}
+use Rattle.ctr_rec.specs.bytes_Fields.{field}
 use Rattle.ctr_page.specs.declared.entry.CatalogEntry.{CatalogEntry}
 use Rattle.ctr_page.specs.Columns.{first_in}
 use Rattle.ctr_page.specs.declared.table.TheConstants.{NAME_AT, NAME_MOST, COLUMNS_AT, COLUMN_SIZE, MOST_COLUMNS}

@@ -1,7 +1,7 @@
 -- What stands on a page, whatever bytes it has.
 use Rattle.std.specs.Prelude.{ℕ, ◌+◌, List, ◌++◌, length, take, drop, Option, None, Some, ◌==◌, if◌then◌else◌}
 use Rattle.std.specs.Int.{w64, cast_signed}
-use Rattle.ctr_bytes.specs.Fields.{field}
+use Rattle.ctr_rec.specs.bytes_Fields.{field}
 use Rattle.ctr_page.specs.declared.header.Header.{Header}
 use Rattle.ctr_page.specs.declared.rows.Place.{Place}
 use Rattle.ctr_page.specs.declared.rows.Version.{Version}

@@ -1,7 +1,7 @@
 // The checks of a page, in the order in which they are told. None takes memory.
 ghost use Rattle.std.specs.Prelude.{◌≡◌, ◌≤◌, ◌<◌, ◌+◌, ◌-◌, ◌*◌, length, ℕ, List, Ok};
-ghost use Rattle.ctr_types.specs.declared.value.Column.{Column};
-ghost use Rattle.ctr_types.specs.declared.value.Kind.{Kind};
+ghost use Rattle.ctr_rec.specs.types_Column.{Column};
+ghost use Rattle.ctr_rec.specs.types_Kind.{Kind};
 ghost use Rattle.ctr_page.specs.declared.checks.Chain.{Chain};
 ghost use Rattle.ctr_page.specs.Places.{slot_size as size_of_slot, kept_size as size_of_kept};
 ghost use Rattle.ctr_value.specs.Payload.{IsKeyed};
@@ -16,9 +16,7 @@ use crate::table::{
     MOST_COLUMNS, NAME_AT, NAME_MOST, NEXT_AT, OWNER_AT, TOMBSTONE_AT, VERSION_SIZE, has_previous,
     kept_pointer_at, kept_size, pointer_at, previous_at, room_for, slot_size, start_of,
 };
-use ctr_bytes::{get_u8, get_u16, get_u32, get_u64};
-use ctr_rec::{BadRecord, at_most, expect};
-use ctr_types::Kind;
+use ctr_rec::{BadRecord, Kind, at_most, expect, get_u8, get_u16, get_u32, get_u64};
 use ctr_value::field_width;
 
 /// A place on a page where one number is wanted, and another is there. Places count from the page's first

@@ -1,20 +1,18 @@
 // Entries of the catalog.
 ghost use Rattle.std.specs.Prelude.{◌≡◌, ◌≤◌, ◌<◌, ◌+◌, ◌-◌, ◌*◌, ◌++◌, [], length, drop, take};
 ghost use Rattle.std.specs.List.{flat_map};
-ghost use Rattle.ctr_bytes.specs.Fields.{field};
+ghost use Rattle.ctr_rec.specs.bytes_Fields.{field};
 ghost use Rattle.ctr_value.specs.Columns.{ColumnsFit, column_bytes};
 ghost use Rattle.ctr_page.specs.Columns.{entry_at as entry_of, kind_said, table_name_in, first_in, versions_first_in, column_kind_at, columns_in, kinds_of, columns_bytes, text_bytes, new_entry_bytes, IsNewTitle};
 ghost use Rattle.ctr_page.specs.Making.{PutsBytes};
-ghost use Rattle.ctr_types.specs.Names.{IsName};
+ghost use Rattle.ctr_rec.specs.types_Names.{IsName};
 
 use crate::putting::{put_byte, put_long, put_zeros};
 use crate::table::{
     COLUMN_SIZE, COLUMNS_AT, CREATOR_AT, DROPPER_AT, ENTRY_SIZE, FIRSTS_AT, MOST_COLUMNS, NAME_AT,
     NAME_MOST, VERSIONS_AT,
 };
-use ctr_bytes::{get_u8, get_u32, get_u64};
-use ctr_rec::{Bytes, PageNo};
-use ctr_types::{Column, Kind, Name, Schema, Xid};
+use ctr_rec::{Bytes, Column, Kind, Name, PageNo, Schema, Xid, get_u8, get_u32, get_u64};
 use ctr_value::put_text;
 use std::marker::Model;
 

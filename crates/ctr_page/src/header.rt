@@ -5,8 +5,7 @@ ghost use Rattle.ctr_page.specs.Making.{header_bytes, IsHeader, PutsBytes};
 
 use crate::putting::{put_byte, put_long, put_word};
 use crate::table::{BUCKET_AT, HEADER_SIZE, KIND_AT, NEXT_AT, OWNER_AT};
-use ctr_bytes::{get_u8, get_u32};
-use ctr_rec::PageNo;
+use ctr_rec::{PageNo, get_u8, get_u32};
 use std::marker::Model;
 
 /// What a page holds. A page comes from a disk, so its byte may be none of these; it is kept as it stood.

@@ -15,6 +15,7 @@ pub use checks::{
     BadPage, Chain, check_entry, check_header, check_slot, check_version, damage_differs,
     kinds_width,
 };
+pub use ctr_value::row_by_kinds;
 pub use entry::{CatalogEntry, EntryState, make_entry, read_entry};
 pub use header::{Header, PageKind, make_header, read_header};
 pub use rows::{

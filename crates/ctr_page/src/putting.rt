@@ -1,10 +1,10 @@
 // Fields that are put one behind another: each call says where its own ends.
 ghost use Rattle.std.specs.Prelude.{◌≡◌, ◌+◌, ◌≤◌, length, replicate};
 ghost use Rattle.std.specs.Int.{w64, cast_unsigned};
-ghost use Rattle.ctr_bytes.specs.Fields.{spelled};
+ghost use Rattle.ctr_rec.specs.bytes_Fields.{spelled};
 ghost use Rattle.ctr_page.specs.Making.{PutsBytes};
 
-use ctr_bytes::{put_i64, put_u8, put_u16, put_u32, put_u64};
+use ctr_rec::{put_i64, put_u8, put_u16, put_u32, put_u64};
 
 /// PutsBytes one byte.
 pub fn put_byte(into: &mut [u8], at: usize, v: u8) -> usize

@@ -9,9 +9,7 @@ use crate::table::{
     HEAD_AT, KEY_AT, TOMBSTONE_AT, VERSION_SIZE, has_previous, kept_pointer_at, kept_size,
     pointer_at, previous_at, slot_size, start_of,
 };
-use ctr_bytes::{get_i64, get_u8, get_u16, get_u32, get_u64};
-use ctr_rec::{Bytes, PageNo};
-use ctr_types::Xid;
+use ctr_rec::{Bytes, PageNo, Xid, get_i64, get_u8, get_u16, get_u32, get_u64};
 use std::marker::Model;
 
 /// Whether a slot or a version entry is used: exactly where its byte is 1. Any byte is kept as it stood.

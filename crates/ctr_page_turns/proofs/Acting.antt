@@ -1,11 +1,11 @@
 -- A record that is laid as an action is that action.
 use Rattle.std.proofs.Common.{◌≡◌, ℕ, [], ◌∷◌, sym, subst}
 use Rattle.ctr_rec.specs.declared.record.Record.{Record}
-use Rattle.ctr_redo.specs.States.{State}
-use Rattle.ctr_record_effects.specs.States.{pages_in, area_in}
-use Rattle.ctr_store.specs.Store.{View, Logs}
-use Rattle.ctr_actions.specs.Sites.{site_of}
-use Rattle.ctr_actions.specs.Actions.{Action, Owes, site_after}
+use Rattle.ctr_passed.specs.redo_States.{State}
+use Rattle.ctr_walk.specs.record_effects_States.{pages_in, area_in}
+use Rattle.ctr_walk.specs.store_Store.{View, Logs}
+use Rattle.ctr_passed.specs.actions_Sites.{site_of}
+use Rattle.ctr_passed.specs.actions_Actions.{Action, Owes, site_after}
 use Rattle.ctr_passed.specs.Laid.{LiesAs, LaidPasses}
 use Rattle.ctr_passed.specs.Logged.{IsLaidAs}
 use Rattle.ctr_page_turns.specs.Acts.{ActsBy}

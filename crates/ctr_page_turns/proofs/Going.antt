@@ -6,8 +6,8 @@ use Rattle.ctr_disk.specs.Image.{Image}
 use Rattle.ctr_disk.specs.declared.fault.StoreFault.{StoreFault}
 use Rattle.ctr_disk.specs.declared.fault.StoreFault.TheVariants.{Fault, Damaged}
 use Rattle.ctr_rec.specs.declared.record.Record.{Record}
-use Rattle.ctr_base.specs.Base.{WhereSound}
-use Rattle.ctr_store.specs.Store.{View, LeavesFront, LeavesPage}
+use Rattle.ctr_walk.specs.base_Base.{WhereSound}
+use Rattle.ctr_walk.specs.store_Store.{View, LeavesFront, LeavesPage}
 use Rattle.ctr_walk.specs.OneRecord.{LogsOne}
 use Rattle.ctr_walk.specs.Damage.{ReadsPages}
 use Rattle.ctr_page_turns.specs.Turns.{CountsExtent, Turns, Reads, LogsARecord, Grows}

@@ -7,7 +7,7 @@ use Rattle.ctr_meta.specs.declared.items.Wanted.{Wanted}
 use Rattle.ctr_meta.specs.Items.{is_wanted, left_out}
 use Rattle.ctr_meta.specs.Kept.{TablesKept}
 use Rattle.ctr_meta.specs.Needs.{there}
-use Rattle.ctr_store.specs.Store.{View, KeepsRoom}
+use Rattle.ctr_walk.specs.store_Store.{View, KeepsRoom}
 use Rattle.ctr_walk.specs.OneRecord.{HasRoomForOne}
 
 pub room_still : {D : Type 0} (opens items : ℕ) (a b : View D) → KeepsRoom a b → b.stopped ≡ false → HasRoomForOne opens items a → HasRoomForOne opens items b

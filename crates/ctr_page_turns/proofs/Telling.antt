@@ -3,10 +3,10 @@ use Rattle.std.proofs.Common.{◌≡◌, ℕ, ◌+◌, ◌<◌, ◌≤◌, Ok, �
 use Rattle.std.specs.Prelude.{IsTrue}
 use Rattle.ctr_disk.specs.declared.disk.Disk.{Ghosts}
 use Rattle.ctr_disk.specs.Image.{Image}
-use Rattle.ctr_base.specs.Base.{IsSoundImage}
-use Rattle.ctr_base.proofs.GrowLaws.{grown_more}
-use Rattle.ctr_redo.specs.States.{State, grown}
-use Rattle.ctr_store.specs.Store.{View, LeavesFront}
+use Rattle.ctr_walk.specs.base_Base.{IsSoundImage}
+use Rattle.ctr_walk.proofs.base_GrowLaws.{grown_more}
+use Rattle.ctr_passed.specs.redo_States.{State, grown}
+use Rattle.ctr_walk.specs.store_Store.{View, LeavesFront}
 use Rattle.ctr_page_turns.specs.Turns.{LogsSome, CountsBehind, Turns, Reads, LogsARecord, Grows, LogsAtRest, RestsBehind}
 
 -- no number is one more than itself

@@ -5,7 +5,7 @@ use Rattle.std.specs.Prelude.{IfErr, is_ok}
 use Rattle.ctr_disk.specs.declared.fault.StoreFault.{StoreFault}
 use Rattle.ctr_disk.specs.declared.fault.StoreFault.TheVariants.{Fault}
 use Rattle.ctr_rec.specs.declared.record.Record.{Record}
-use Rattle.ctr_store.specs.Store.{View, unmet_need}
+use Rattle.ctr_walk.specs.store_Store.{View, unmet_need}
 use Rattle.ctr_walk.specs.OneRecord.{WhyNotLogged}
 
 pub by_disk : {D T : Type 0} (r : Record) (v w : View D) (result : Result T StoreFault) → unmet_need r v ≡ Ok tt → IfErr result (WhyNotLogged r v w) → IfErr result (λ e. e ≡ Fault)

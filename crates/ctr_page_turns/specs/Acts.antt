@@ -1,9 +1,9 @@
 -- What the record of a turn is between two states that may be a database's.
 use Rattle.std.specs.Prelude.{ℕ}
-use Rattle.ctr_redo.specs.States.{State}
-use Rattle.ctr_record_effects.specs.States.{pages_in, area_in}
-use Rattle.ctr_actions.specs.Actions.{Action}
-use Rattle.ctr_actions.specs.Records.{Does}
+use Rattle.ctr_passed.specs.redo_States.{State}
+use Rattle.ctr_walk.specs.record_effects_States.{pages_in, area_in}
+use Rattle.ctr_passed.specs.actions_Actions.{Action}
+use Rattle.ctr_passed.specs.actions_Records.{Does}
 use Rattle.ctr_passed.specs.Laid.{LiesAs, LaidPasses}
 
 -- A state is left by an action of a transaction, which owes nothing more in the one before. Its

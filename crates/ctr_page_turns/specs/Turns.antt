@@ -6,9 +6,9 @@ use Rattle.ctr_disk.specs.declared.fault.StoreFault.{StoreFault}
 use Rattle.ctr_disk.specs.declared.fault.StoreFault.TheVariants.{Fault}
 use Rattle.ctr_types.specs.Faults.{HasFault}
 use Rattle.ctr_rec.specs.declared.record.Record.{Record}
-use Rattle.ctr_base.specs.declared.growing.TheConstants.{MOST_PAGES}
-use Rattle.ctr_base.specs.Base.{WhereSound}
-use Rattle.ctr_store.specs.Store.{View, LeavesFront, Logs, LeavesPage, LeavesGrowing, GrowsByExtent, CountsUp}
+use Rattle.ctr_walk.specs.base_growing_TheConstants.{MOST_PAGES}
+use Rattle.ctr_walk.specs.base_Base.{WhereSound}
+use Rattle.ctr_walk.specs.store_Store.{View, LeavesFront, Logs, LeavesPage, LeavesGrowing, GrowsByExtent, CountsUp}
 use Rattle.ctr_walk.specs.OneRecord.{LogsOne}
 use Rattle.ctr_walk.specs.Damage.{ReadsPages}
 

@@ -4,8 +4,8 @@ ghost use Rattle.ctr_types.specs.Faults.{HasFault};
 ghost use Rattle.ctr_disk.specs.declared.fault.StoreFault.{StoreFault};
 ghost use Rattle.ctr_disk.specs.declared.fault.StoreFault.TheVariants.{Fault};
 ghost use Rattle.ctr_disk.specs.Image.{Image};
-ghost use Rattle.ctr_base.specs.Base.{WhereSound};
-ghost use Rattle.ctr_store.specs.Store.{View, LeavesFront};
+ghost use Rattle.ctr_walk.specs.base_Base.{WhereSound};
+ghost use Rattle.ctr_walk.specs.store_Store.{View, LeavesFront};
 ghost use Rattle.ctr_page_turns.specs.Turns.{LogsSome, CountsBehind, Turns, LogsAtRest, RestsBehind};
 
 use ctr_disk::Disk;

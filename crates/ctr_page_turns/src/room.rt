@@ -4,7 +4,7 @@ ghost use Rattle.ctr_meta.specs.declared.items.Wanted.{Wanted};
 ghost use Rattle.ctr_meta.specs.Tables.{Tables};
 ghost use Rattle.ctr_meta.specs.Needs.{item_need};
 ghost use Rattle.ctr_meta.specs.Effects.{without_item};
-ghost use Rattle.ctr_store.specs.Store.{View, KeepsRoom};
+ghost use Rattle.ctr_walk.specs.store_Store.{View, KeepsRoom};
 ghost use Rattle.ctr_walk.specs.OneRecord.{HasRoomForOne};
 
 use ctr_disk::Disk;

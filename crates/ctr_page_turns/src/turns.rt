@@ -3,12 +3,12 @@ ghost use Rattle.std.specs.Prelude.{◌≡◌, ◌∷◌, [], ℕ, Ok, Err, Resu
 ghost use Rattle.ctr_disk.specs.Image.{Image};
 ghost use Rattle.ctr_disk.specs.declared.fault.StoreFault.{StoreFault};
 ghost use Rattle.ctr_rec.specs.declared.record.Record.{Record};
-ghost use Rattle.ctr_base.specs.Base.{WhereSound};
-ghost use Rattle.ctr_store.specs.Store.{View, Logs, LeavesFront, LeavesPage};
+ghost use Rattle.ctr_walk.specs.base_Base.{WhereSound};
+ghost use Rattle.ctr_walk.specs.store_Store.{View, Logs, LeavesFront, LeavesPage};
 ghost use Rattle.ctr_walk.specs.Damage.{ReadsPages};
 ghost use Rattle.ctr_walk.specs.OneRecord.{LogsOne};
-ghost use Rattle.ctr_actions.specs.Sites.{site_of};
-ghost use Rattle.ctr_actions.specs.Actions.{Action, Owes, site_after};
+ghost use Rattle.ctr_passed.specs.actions_Sites.{site_of};
+ghost use Rattle.ctr_passed.specs.actions_Actions.{Action, Owes, site_after};
 ghost use Rattle.ctr_passed.specs.Logged.{IsLaidAs};
 ghost use Rattle.ctr_page_turns.specs.Turns.{CountsExtent, Turns};
 ghost use Rattle.ctr_page_turns.specs.Acts.{ActsBy};

@@ -18,23 +18,23 @@ use Rattle.ctr_versions.specs.Steps.{engine_forgotten}
 use Rattle.ctr_versions.proofs.Steps.{rollback_step}
 use Rattle.ctr_versions.proofs.Forgetting.{forget_step}
 use Rattle.ctr_versions.proofs.Xids.{has_here, aborted_numbers, aborted_sound, forgotten_apart}
-use Rattle.ctr_meta.specs.Tables.{Tables, is_in, heads_in}
-use Rattle.ctr_meta.specs.Effects.{rolled_back, forgotten_by}
-use Rattle.ctr_area.specs.Areas.{Area}
-use Rattle.ctr_area.specs.Chains.{slot_places, chain_of}
-use Rattle.ctr_area.specs.Images.{is_committed_in, is_live, versions_in, entry_numbers}
-use Rattle.ctr_area.specs.Sound.{IsAmong, AreAllOnce, is_headed_by, head_count, xids_in, IsSoundArea, IsSchemaItem}
+use Rattle.ctr_actions.specs.meta_Tables.{Tables, is_in, heads_in}
+use Rattle.ctr_actions.specs.meta_Effects.{rolled_back, forgotten_by}
+use Rattle.ctr_actions.specs.area_Areas.{Area}
+use Rattle.ctr_actions.specs.area_Chains.{slot_places, chain_of}
+use Rattle.ctr_actions.specs.area_Images.{is_committed_in, is_live, versions_in, entry_numbers}
+use Rattle.ctr_actions.specs.area_Sound.{IsAmong, AreAllOnce, is_headed_by, head_count, xids_in, IsSoundArea, IsSchemaItem}
 use Rattle.ctr_rec.specs.declared.record.SlogItem.TheVariants.{CreateOf, DropOf}
-use Rattle.ctr_record_laws.specs.Owed.{OwedByAbort}
-use Rattle.ctr_record_laws.proofs.Begin.{xids_append}
-use Rattle.ctr_record_laws.proofs.Abort.{abort_sound}
-use Rattle.ctr_record_laws.proofs.Forget.{forget_sound, dropper_not}
-use Rattle.ctr_record_laws.proofs.Leaving.{among_without}
-use Rattle.ctr_record_laws.specs.Bounds.{IsInBounds}
-use Rattle.ctr_record_laws.proofs.Heads.{listed_drawn, listed_open}
-use Rattle.ctr_record_laws.proofs.Members.{all_each, all_parts}
-use Rattle.ctr_record_laws.proofs.Owned.{slot_inside, in_all}
-use Rattle.ctr_record_laws.proofs.Xids.{among_in, in_among, not_both, once_parts, tells, looked_up}
+use Rattle.ctr_actions.specs.record_laws_Owed.{OwedByAbort}
+use Rattle.ctr_names.proofs.record_laws_Begin.{xids_append}
+use Rattle.ctr_names.proofs.record_laws_Abort.{abort_sound}
+use Rattle.ctr_names.proofs.record_laws_Forget.{forget_sound, dropper_not}
+use Rattle.ctr_names.proofs.record_laws_Leaving.{among_without}
+use Rattle.ctr_actions.specs.record_laws_Bounds.{IsInBounds}
+use Rattle.ctr_names.proofs.record_laws_Heads.{listed_drawn, listed_open}
+use Rattle.ctr_actions.proofs.record_laws_Members.{all_each, all_parts}
+use Rattle.ctr_actions.proofs.record_laws_Owned.{slot_inside, in_all}
+use Rattle.ctr_actions.proofs.record_laws_Xids.{among_in, in_among, not_both, once_parts, tells, looked_up}
 use Rattle.ctr_actions.specs.Sites.{Site}
 use Rattle.ctr_versions.proofs.Undoing.{orphan_step}
 use Rattle.ctr_paged.specs.Paged.{Run, xids_of, engine_at, AreDropsNewer, AreSnapshotsEarlier, AreModelled, ShowsPaged}

@@ -9,7 +9,7 @@ use Rattle.ctr_model.specs.declared.state.Transaction.{Transaction}
 use Rattle.ctr_model.specs.State.{transaction_of}
 use Rattle.ctr_versions.specs.Engine.{SessionHeld}
 use Rattle.ctr_sessions.specs.Sessions.{IsDrawnFor, ShowsBegun}
-use Rattle.ctr_area.specs.Images.{is_committed_in}
+use Rattle.ctr_actions.specs.area_Images.{is_committed_in}
 use Rattle.ctr_actions.specs.Sites.{Site}
 use Rattle.ctr_paged.specs.Paged.{Run, engine_at, ShowsPaged}
 use Rattle.ctr_names.proofs.Names.{own_tables}

@@ -12,13 +12,13 @@ use Rattle.ctr_versions.proofs.Keys.{known}
 use Rattle.ctr_versions.specs.Xids.{number_of}
 use Rattle.ctr_versions.specs.Versions.{IsOrdered}
 use Rattle.ctr_versions.specs.Engine.{SessionHeld, EngineHeld, ShowsState}
-use Rattle.ctr_meta.specs.Tables.{Tables, is_in}
-use Rattle.ctr_area.specs.Areas.{Title, Area}
-use Rattle.ctr_area.specs.Images.{is_committed_in, is_live, versions_in}
-use Rattle.ctr_area.specs.Sound.{xids_in, IsSoundArea}
-use Rattle.ctr_record_laws.specs.Bounds.{IsInBounds}
-use Rattle.ctr_record_laws.proofs.Heads.{listed_drawn}
-use Rattle.ctr_record_laws.proofs.Xids.{same_in}
+use Rattle.ctr_actions.specs.meta_Tables.{Tables, is_in}
+use Rattle.ctr_actions.specs.area_Areas.{Title, Area}
+use Rattle.ctr_actions.specs.area_Images.{is_committed_in, is_live, versions_in}
+use Rattle.ctr_actions.specs.area_Sound.{xids_in, IsSoundArea}
+use Rattle.ctr_actions.specs.record_laws_Bounds.{IsInBounds}
+use Rattle.ctr_names.proofs.record_laws_Heads.{listed_drawn}
+use Rattle.ctr_actions.proofs.record_laws_Xids.{same_in}
 use Rattle.ctr_actions.specs.Sites.{Site}
 use Rattle.ctr_paged.specs.Paged.{Run, xids_of, engine_at, AreDropsNewer, AreModelled, ShowsPaged}
 

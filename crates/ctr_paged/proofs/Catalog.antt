@@ -18,16 +18,16 @@ use Rattle.ctr_versions.specs.Laws.{with_own}
 use Rattle.ctr_versions.proofs.Cleaning.{name_step}
 use Rattle.ctr_versions.proofs.Steps.{not_mine}
 use Rattle.ctr_rec.specs.declared.record.SlogItem.TheVariants.{CreateOf, DropOf}
-use Rattle.ctr_meta.specs.Tables.{Tables}
-use Rattle.ctr_meta.specs.Effects.{with_item, without_item}
-use Rattle.ctr_area.specs.Areas.{Title, Area, no_pages}
-use Rattle.ctr_area.specs.Changes.{ChangesEntry, new_title, empty_chains, with_title}
-use Rattle.ctr_area.specs.Images.{made_by_entry, is_committed_in, is_live, versions_in, name_chain, is_named_so}
-use Rattle.ctr_area.specs.Sound.{IsSchemaItem, IsSoundArea, IsAmong, xids_in}
-use Rattle.ctr_record_laws.specs.Bounds.{IsInBounds}
-use Rattle.ctr_record_laws.proofs.Xids.{in_among}
-use Rattle.ctr_record_laws.specs.Owed.{OwedByCreate, OwedByDrop, OwedByUncreate, OwedByUndrop, OwedByDying, OwedByFreeing}
-use Rattle.ctr_record_laws.proofs.Create.{create_sound}
+use Rattle.ctr_actions.specs.meta_Tables.{Tables}
+use Rattle.ctr_actions.specs.meta_Effects.{with_item, without_item}
+use Rattle.ctr_actions.specs.area_Areas.{Title, Area, no_pages}
+use Rattle.ctr_actions.specs.area_Changes.{ChangesEntry, new_title, empty_chains, with_title}
+use Rattle.ctr_actions.specs.area_Images.{made_by_entry, is_committed_in, is_live, versions_in, name_chain, is_named_so}
+use Rattle.ctr_actions.specs.area_Sound.{IsSchemaItem, IsSoundArea, IsAmong, xids_in}
+use Rattle.ctr_actions.specs.record_laws_Bounds.{IsInBounds}
+use Rattle.ctr_actions.proofs.record_laws_Xids.{in_among}
+use Rattle.ctr_actions.specs.record_laws_Owed.{OwedByCreate, OwedByDrop, OwedByUncreate, OwedByUndrop, OwedByDying, OwedByFreeing}
+use Rattle.ctr_names.proofs.record_laws_Create.{create_sound}
 use Rattle.ctr_actions.proofs.Latest.{last_among}
 use Rattle.ctr_actions.specs.Sites.{Site}
 use Rattle.ctr_paged.specs.Paged.{Run, xids_of, engine_at, ShowsPaged}
@@ -41,18 +41,18 @@ use Rattle.std.specs.Prelude.{is_some, unwrap_or, ◌&&◌, nat_lt}
 use Rattle.ctr_snap.specs.Seeing.{has, is_committed}
 use Rattle.ctr_versions.proofs.Written.{same_itself}
 use Rattle.ctr_versions.specs.Keys.{schema_writes}
-use Rattle.ctr_record_laws.proofs.Heads.{listed_open}
-use Rattle.ctr_record_laws.proofs.Drop.{drop_sound}
-use Rattle.ctr_record_laws.proofs.Latest.{title_here, title_apart, live_open}
+use Rattle.ctr_names.proofs.record_laws_Heads.{listed_open}
+use Rattle.ctr_names.proofs.record_laws_Drop.{drop_sound}
+use Rattle.ctr_names.proofs.record_laws_Latest.{title_here, title_apart, live_open}
 use Rattle.ctr_versions.proofs.Undoing.{of_schemas, head_goes, head_changes, chain_step}
-use Rattle.ctr_meta.specs.declared.items.Wanted.{Wanted}
-use Rattle.ctr_meta.specs.declared.items.Wanted.TheVariants.{Creation, Dropping}
-use Rattle.ctr_record_laws.proofs.Uncreate.{uncreate_sound}
-use Rattle.ctr_record_laws.proofs.Undrop.{undrop_sound}
+use Rattle.ctr_names.specs.meta_Wanted.{Wanted}
+use Rattle.ctr_names.specs.meta_Wanted.TheVariants.{Creation, Dropping}
+use Rattle.ctr_names.proofs.record_laws_Uncreate.{uncreate_sound}
+use Rattle.ctr_names.proofs.record_laws_Undrop.{undrop_sound}
 use Rattle.ctr_names.proofs.Unmaking.{uncreate_takes, undrop_takes}
 use Rattle.ctr_names.specs.Shape.{LosesOwn, below_in}
 use Rattle.ctr_versions.specs.Undoing.{IsNotAtWork, HasUndoneHead, IsWorking}
-use Rattle.ctr_record_laws.proofs.Entry.{dying_sound, freeing_sound}
+use Rattle.ctr_names.proofs.record_laws_Entry.{dying_sound, freeing_sound}
 use Rattle.ctr_names.proofs.Agree.{freed_same}
 use Rattle.ctr_names.proofs.Dying.{dying_set, dying_same}
 

@@ -11,21 +11,21 @@ use Rattle.ctr_versions.specs.Chains.{value_seen}
 use Rattle.ctr_versions.specs.Listing.{chain_at}
 use Rattle.ctr_versions.specs.Versions.{Made, names_at, rows_of}
 use Rattle.ctr_rec.specs.declared.record.SlogItem.TheVariants.{FreeOf}
-use Rattle.ctr_meta.specs.Effects.{with_item}
-use Rattle.ctr_page.specs.declared.rows.Place.{Place}
-use Rattle.ctr_area.specs.Areas.{RowVersion, Slot, Older, Firsts, Area}
-use Rattle.ctr_area.specs.Chains.{pages_bound, pages_from, places_on, places_from, slot_places}
-use Rattle.ctr_area.specs.Changes.{with_firsts, with_bucket}
-use Rattle.ctr_area.specs.Images.{is_committed_in, is_live, versions_in, rows_gathered, rows_of_entry}
-use Rattle.ctr_area.specs.Sound.{IsAmong, IsOfRows, EndsIn}
-use Rattle.ctr_record_laws.specs.Bounds.{IsInBounds}
-use Rattle.ctr_record_laws.proofs.Gathering.{matches, match_used, match_key, found_here, none_found}
-use Rattle.ctr_record_laws.proofs.Members.{among_rest}
-use Rattle.ctr_record_laws.proofs.Slots.{slots_here, slots_past, rows_sorted}
-use Rattle.ctr_record_laws.specs.Owed.{OwedByUnlink}
-use Rattle.ctr_record_laws.proofs.Ends.{behind_chain, bucket_chain, front_places, set_among, one_among}
-use Rattle.ctr_record_laws.proofs.Links.{bucket_inside}
-use Rattle.ctr_record_laws.proofs.Unlinks.{unlink_sound, above_zero}
+use Rattle.ctr_actions.specs.meta_Effects.{with_item}
+use Rattle.ctr_actions.specs.page_Place.{Place}
+use Rattle.ctr_actions.specs.area_Areas.{RowVersion, Slot, Older, Firsts, Area}
+use Rattle.ctr_actions.specs.area_Chains.{pages_bound, pages_from, places_on, places_from, slot_places}
+use Rattle.ctr_actions.specs.area_Changes.{with_firsts, with_bucket}
+use Rattle.ctr_actions.specs.area_Images.{is_committed_in, is_live, versions_in, rows_gathered, rows_of_entry}
+use Rattle.ctr_actions.specs.area_Sound.{IsAmong, IsOfRows, EndsIn}
+use Rattle.ctr_actions.specs.record_laws_Bounds.{IsInBounds}
+use Rattle.ctr_names.proofs.record_laws_Gathering.{matches, match_used, match_key, found_here, none_found}
+use Rattle.ctr_actions.proofs.record_laws_Members.{among_rest}
+use Rattle.ctr_names.proofs.record_laws_Slots.{slots_here, slots_past, rows_sorted}
+use Rattle.ctr_actions.specs.record_laws_Owed.{OwedByUnlink}
+use Rattle.ctr_actions.proofs.record_laws_Ends.{behind_chain, bucket_chain, front_places, set_among, one_among}
+use Rattle.ctr_actions.proofs.record_laws_Links.{bucket_inside}
+use Rattle.ctr_actions.proofs.record_laws_Unlinks.{unlink_sound, above_zero}
 use Rattle.ctr_actions.specs.Sites.{Site}
 use Rattle.ctr_versions.proofs.Dead.{emptied_step}
 use Rattle.ctr_paged.specs.Paged.{Run, engine_at, ShowsPaged}

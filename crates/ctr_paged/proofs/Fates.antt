@@ -20,18 +20,18 @@ use Rattle.ctr_versions.specs.Steps.{AreUntouched, engine_drawn}
 use Rattle.ctr_versions.proofs.Steps.{ask_step, draw_step}
 use Rattle.ctr_versions.proofs.Xids.{drawn_numbers, asked_numbers}
 use Rattle.ctr_rec.specs.declared.record.SlogItem.TheVariants.{DropOf}
-use Rattle.ctr_meta.specs.Tables.{Tables, is_in, without_xid}
-use Rattle.ctr_meta.specs.Effects.{opened_by, committed}
-use Rattle.ctr_area.specs.Areas.{Title}
-use Rattle.ctr_area.specs.Images.{is_committed_in, is_live, versions_in}
-use Rattle.ctr_area.specs.Sound.{IsAmong, AreAllOnce, how_many, xids_in}
-use Rattle.ctr_record_laws.specs.Owed.{OwedByCommit}
-use Rattle.ctr_record_laws.proofs.Begin.{begin_sound, xids_append}
-use Rattle.ctr_record_laws.proofs.Commit.{commit_sound}
-use Rattle.ctr_record_laws.proofs.Leaving.{among_without}
-use Rattle.ctr_record_laws.proofs.Heads.{listed_open}
-use Rattle.ctr_record_laws.proofs.Members.{among_parts}
-use Rattle.ctr_record_laws.proofs.Xids.{among_in, in_among, once_parts}
+use Rattle.ctr_actions.specs.meta_Tables.{Tables, is_in, without_xid}
+use Rattle.ctr_actions.specs.meta_Effects.{opened_by, committed}
+use Rattle.ctr_actions.specs.area_Areas.{Title}
+use Rattle.ctr_actions.specs.area_Images.{is_committed_in, is_live, versions_in}
+use Rattle.ctr_actions.specs.area_Sound.{IsAmong, AreAllOnce, how_many, xids_in}
+use Rattle.ctr_actions.specs.record_laws_Owed.{OwedByCommit}
+use Rattle.ctr_names.proofs.record_laws_Begin.{begin_sound, xids_append}
+use Rattle.ctr_names.proofs.record_laws_Commit.{commit_sound}
+use Rattle.ctr_names.proofs.record_laws_Leaving.{among_without}
+use Rattle.ctr_names.proofs.record_laws_Heads.{listed_open}
+use Rattle.ctr_actions.proofs.record_laws_Members.{among_parts}
+use Rattle.ctr_actions.proofs.record_laws_Xids.{among_in, in_among, once_parts}
 use Rattle.ctr_actions.specs.Sites.{Site}
 use Rattle.ctr_paged.specs.Paged.{Run, xids_of, engine_at, AreDropsNewer, AreSnapshotsEarlier, ShowsPaged}
 use Rattle.ctr_paged.proofs.Carry.{open_some, modelled_put, modelled_both}

@@ -13,21 +13,21 @@ use Rattle.ctr_versions.specs.Laws.{with_own}
 use Rattle.ctr_versions.specs.Undoing.{IsNotAtWork}
 use Rattle.ctr_versions.specs.Versions.{name_written}
 use Rattle.ctr_versions.proofs.Reading.{session_moved}
-use Rattle.ctr_meta.specs.Effects.{with_item}
-use Rattle.ctr_area.specs.Changes.{new_title, empty_chains, ChangesEntry}
-use Rattle.ctr_area.specs.Images.{made_by_entry, is_live}
-use Rattle.ctr_record_laws.specs.Owed.{OwedByCreate, OwedByDrop, OwedByCommit, OwedByAbort}
+use Rattle.ctr_actions.specs.meta_Effects.{with_item}
+use Rattle.ctr_actions.specs.area_Changes.{new_title, empty_chains, ChangesEntry}
+use Rattle.ctr_actions.specs.area_Images.{made_by_entry, is_live}
+use Rattle.ctr_actions.specs.record_laws_Owed.{OwedByCreate, OwedByDrop, OwedByCommit, OwedByAbort}
 use Rattle.ctr_paged.proofs.Rows.{theirs}
 use Rattle.ctr_names.proofs.Stand.{item_drawn}
 use Rattle.std.proofs.Math.Bool.{and-false}
 use Rattle.ctr_versions.proofs.Keys.{known}
-use Rattle.ctr_meta.specs.Items.{is_wanted}
-use Rattle.ctr_meta.specs.declared.items.Wanted.{Wanted}
-use Rattle.ctr_meta.specs.declared.items.Wanted.TheVariants.{Allocation, OfPage, Creation, Dropping}
-use Rattle.ctr_area.specs.Areas.{Title}
-use Rattle.ctr_area.specs.Sound.{IsAmong, IsSchemaItem}
-use Rattle.ctr_record_laws.proofs.Items.{any_there}
-use Rattle.ctr_record_laws.specs.Bounds.{IsInBounds}
+use Rattle.ctr_names.specs.meta_Items.{is_wanted}
+use Rattle.ctr_names.specs.meta_Wanted.{Wanted}
+use Rattle.ctr_names.specs.meta_Wanted.TheVariants.{Allocation, OfPage, Creation, Dropping}
+use Rattle.ctr_actions.specs.area_Areas.{Title}
+use Rattle.ctr_actions.specs.area_Sound.{IsAmong, IsSchemaItem}
+use Rattle.ctr_actions.proofs.record_laws_Items.{any_there}
+use Rattle.ctr_actions.specs.record_laws_Bounds.{IsInBounds}
 use Rattle.ctr_actions.specs.Sites.{Site}
 use Rattle.ctr_actions.specs.Actions.{Action, Begins, Allocates, Formats, Links, LinksOlder, Keeps, Writes, Creates, Drops, Commits, Frees, Uncreates, Undrops, Aborts, Reclaims, Reverts, Trims, Cuts, FreesOlder, MakesDead, Unlinks, UnlinksOlder, FreesEntry, Forgets, Checkpoints, Owes, site_after}
 use Rattle.ctr_actions.proofs.Latest.{last_among}

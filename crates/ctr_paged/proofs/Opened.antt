@@ -14,13 +14,13 @@ use Rattle.ctr_versions.specs.Versions.{database_seen}
 use Rattle.ctr_versions.specs.Engine.{ShowsState}
 use Rattle.ctr_versions.proofs.Opened.{opened_state}
 use Rattle.ctr_versions.proofs.Versions.{world_shows}
-use Rattle.ctr_meta.specs.Tables.{Tables}
-use Rattle.ctr_area.specs.Areas.{Area}
-use Rattle.ctr_area.specs.Chains.{pages_bound}
-use Rattle.ctr_area.specs.Images.{is_committed_in, versions_in, image_rows, name_chain, all_numbered}
-use Rattle.ctr_area.specs.Sound.{IsSoundArea}
-use Rattle.ctr_record_laws.proofs.Slots.{rows_sorted}
-use Rattle.ctr_record_laws.specs.Bounds.{IsInBounds}
+use Rattle.ctr_actions.specs.meta_Tables.{Tables}
+use Rattle.ctr_actions.specs.area_Areas.{Area}
+use Rattle.ctr_actions.specs.area_Chains.{pages_bound}
+use Rattle.ctr_actions.specs.area_Images.{is_committed_in, versions_in, image_rows, name_chain, all_numbered}
+use Rattle.ctr_actions.specs.area_Sound.{IsSoundArea}
+use Rattle.ctr_names.proofs.record_laws_Slots.{rows_sorted}
+use Rattle.ctr_actions.specs.record_laws_Bounds.{IsInBounds}
 use Rattle.ctr_actions.specs.Sites.{Site, IsSoundSite}
 use Rattle.ctr_paged.specs.Paged.{Run, xids_of, engine_at, at_open, ShowsPaged}
 use Rattle.ctr_names.proofs.Names.{sorted-names, is_ordered, rows_shown}

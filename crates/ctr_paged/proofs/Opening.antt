@@ -2,9 +2,9 @@
 use Rattle.std.proofs.Common.{ℕ, ◌<◌, ◌≤◌, [], refl, subst}
 use Rattle.ctr_model.specs.Database.{Database, after_all}
 use Rattle.ctr_model.specs.State.{at_rest}
-use Rattle.ctr_area.specs.Chains.{pages_bound}
-use Rattle.ctr_area.specs.Images.{is_committed_in, image_rows}
-use Rattle.ctr_record_laws.specs.Bounds.{IsInBounds}
+use Rattle.ctr_actions.specs.area_Chains.{pages_bound}
+use Rattle.ctr_actions.specs.area_Images.{is_committed_in, image_rows}
+use Rattle.ctr_actions.specs.record_laws_Bounds.{IsInBounds}
 use Rattle.ctr_names.specs.Held.{names_of_items}
 use Rattle.ctr_names.proofs.Held.{open_holds}
 use Rattle.ctr_actions.specs.Sites.{Site, IsSoundSite}

@@ -2,22 +2,22 @@
 use Rattle.std.proofs.Common.{ℕ, true, false, refl}
 use Rattle.ctr_model.specs.declared.state.State.{State}
 use Rattle.ctr_rec.specs.declared.record.SlogItem.TheVariants.{AllocOf, FreeOf}
-use Rattle.ctr_meta.specs.Effects.{with_item, without_item}
-use Rattle.ctr_meta.specs.declared.items.Wanted.TheVariants.{Allocation, OfPage}
-use Rattle.ctr_page.specs.declared.header.Header.{Header}
-use Rattle.ctr_page.specs.declared.rows.Place.{Place}
-use Rattle.ctr_area.specs.Areas.{Older, free_older}
-use Rattle.ctr_area.specs.Changes.{with_taken, with_blank, with_firsts, with_bucket, with_older}
-use Rattle.ctr_area.specs.Images.{is_committed_in}
-use Rattle.ctr_record_laws.proofs.Kept.{versions_stay, kept_chains}
-use Rattle.ctr_record_laws.proofs.EntryLaws.{keep_sound, freed_chains, freed_sound}
-use Rattle.ctr_record_laws.proofs.Owning.{alloc_sound, free_sound}
-use Rattle.ctr_record_laws.proofs.Format.{format_sound}
-use Rattle.ctr_record_laws.proofs.Links.{bucket_inside, bucket_sound, older_sound}
-use Rattle.ctr_record_laws.proofs.Unlinks.{older_unlink_sound, older_inside, above_zero}
-use Rattle.ctr_record_laws.specs.Bounds.{IsInBounds}
-use Rattle.ctr_record_laws.specs.Owed.{OwedByKeep, IsInNoChain, OwedByAlloc, OwedByFree, OwedByFormat, OwedByLink, OwedByOlderLink, OwedByOlderUnlink}
-use Rattle.ctr_record_laws.proofs.Shown.{taken_shows, format_shows, link_shows, older_shows}
+use Rattle.ctr_actions.specs.meta_Effects.{with_item, without_item}
+use Rattle.ctr_names.specs.meta_Wanted.TheVariants.{Allocation, OfPage}
+use Rattle.ctr_actions.specs.page_Header.{Header}
+use Rattle.ctr_actions.specs.page_Place.{Place}
+use Rattle.ctr_actions.specs.area_Areas.{Older, free_older}
+use Rattle.ctr_actions.specs.area_Changes.{with_taken, with_blank, with_firsts, with_bucket, with_older}
+use Rattle.ctr_actions.specs.area_Images.{is_committed_in}
+use Rattle.ctr_actions.proofs.record_laws_Kept.{versions_stay, kept_chains}
+use Rattle.ctr_names.proofs.record_laws_EntryLaws.{keep_sound, freed_chains, freed_sound}
+use Rattle.ctr_actions.proofs.record_laws_Owning.{alloc_sound, free_sound}
+use Rattle.ctr_actions.proofs.record_laws_Format.{format_sound}
+use Rattle.ctr_actions.proofs.record_laws_Links.{bucket_inside, bucket_sound, older_sound}
+use Rattle.ctr_actions.proofs.record_laws_Unlinks.{older_unlink_sound, older_inside, above_zero}
+use Rattle.ctr_actions.specs.record_laws_Bounds.{IsInBounds}
+use Rattle.ctr_actions.specs.record_laws_Owed.{OwedByKeep, IsInNoChain, OwedByAlloc, OwedByFree, OwedByFormat, OwedByLink, OwedByOlderLink, OwedByOlderUnlink}
+use Rattle.ctr_names.proofs.record_laws_Shown.{taken_shows, format_shows, link_shows, older_shows}
 use Rattle.ctr_actions.specs.Sites.{Site}
 use Rattle.ctr_paged.specs.Paged.{Run, ShowsPaged}
 use Rattle.ctr_paged.proofs.Carry.{drops_same, paged_same}

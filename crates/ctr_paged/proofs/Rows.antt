@@ -18,21 +18,21 @@ use Rattle.ctr_versions.specs.Steps.{IsFreeKey}
 use Rattle.ctr_versions.specs.Laws.{with_own}
 use Rattle.ctr_versions.proofs.Steps.{write_step}
 use Rattle.ctr_versions.proofs.Cleaning.{cut_step, free_step, revert_step}
-use Rattle.ctr_meta.specs.Tables.{Tables, is_in}
-use Rattle.ctr_meta.specs.Effects.{one_aborted_less, one_head_more}
-use Rattle.ctr_page.specs.declared.rows.Place.{Place}
-use Rattle.ctr_area.specs.Chains.{chain_of}
-use Rattle.ctr_area.specs.Images.{is_committed_in, versions_in}
-use Rattle.ctr_record_laws.specs.Bounds.{IsInBounds}
-use Rattle.ctr_record_laws.specs.Owed.{RowMove, row_moved, row_counted, OwedByRow, loses_head, Reverting, OwedByRevert, reverted_at, Trimming, trimmed_chain, OwedByTrim, trimmed_at, OwedByCut, cut_at, CutHead, CutPrevious, FreeTombstone}
-use Rattle.ctr_record_laws.proofs.RowLaw as row_law
-use Rattle.ctr_record_laws.proofs.RevertLaw as revert_law
-use Rattle.ctr_record_laws.proofs.TrimLaw as trim_law
-use Rattle.ctr_record_laws.proofs.EntryLaws as entry_law
-use Rattle.ctr_record_laws.proofs.Heads.{listed_drawn, listed_open, never_both}
-use Rattle.ctr_record_laws.proofs.Owned.{slot_inside}
-use Rattle.ctr_record_laws.proofs.Slots.{slot_was}
-use Rattle.ctr_record_laws.proofs.Xids.{HaveSameXids, more_same, less_same, aborted_less_same, both_same}
+use Rattle.ctr_actions.specs.meta_Tables.{Tables, is_in}
+use Rattle.ctr_actions.specs.meta_Effects.{one_aborted_less, one_head_more}
+use Rattle.ctr_actions.specs.page_Place.{Place}
+use Rattle.ctr_actions.specs.area_Chains.{chain_of}
+use Rattle.ctr_actions.specs.area_Images.{is_committed_in, versions_in}
+use Rattle.ctr_actions.specs.record_laws_Bounds.{IsInBounds}
+use Rattle.ctr_actions.specs.record_laws_Owed.{RowMove, row_moved, row_counted, OwedByRow, loses_head, Reverting, OwedByRevert, reverted_at, Trimming, trimmed_chain, OwedByTrim, trimmed_at, OwedByCut, cut_at, CutHead, CutPrevious, FreeTombstone}
+use Rattle.ctr_names.proofs.record_laws_RowLaw as row_law
+use Rattle.ctr_actions.proofs.record_laws_RevertLaw as revert_law
+use Rattle.ctr_names.proofs.record_laws_TrimLaw as trim_law
+use Rattle.ctr_names.proofs.record_laws_EntryLaws as entry_law
+use Rattle.ctr_names.proofs.record_laws_Heads.{listed_drawn, listed_open, never_both}
+use Rattle.ctr_actions.proofs.record_laws_Owned.{slot_inside}
+use Rattle.ctr_names.proofs.record_laws_Slots.{slot_was}
+use Rattle.ctr_actions.proofs.record_laws_Xids.{HaveSameXids, more_same, less_same, aborted_less_same, both_same}
 use Rattle.ctr_actions.specs.Sites.{Site}
 use Rattle.ctr_paged.specs.Paged.{Run, xids_of, engine_at, ShowsPaged}
 use Rattle.ctr_paged.proofs.Carry.{HaveSameNumbers, same_tables, drops_same, open_some, paged_moved, modelled_put}

@@ -22,24 +22,24 @@ use Rattle.ctr_versions.specs.Xids.{Xids, number_of, taken, drawn}
 use Rattle.ctr_versions.specs.Steps.{AreUntouched, IsFreeKey}
 use Rattle.ctr_versions.specs.Laws.{IsGranted, with_own, IsNoSessions, mark_of}
 use Rattle.ctr_versions.specs.Engine.{SessionHeld, ShowsSession}
-use Rattle.ctr_meta.specs.declared.items.Wanted.TheVariants.{Creation, Dropping}
-use Rattle.ctr_meta.specs.Items.{is_schema_by, left_out}
-use Rattle.ctr_meta.specs.Tables.{Tables, is_in, heads_in}
-use Rattle.ctr_meta.specs.Effects.{opened_by, committed, rolled_back, forgotten_by, with_item, without_item, one_head_more, one_aborted_less}
-use Rattle.ctr_area.specs.Areas.{no_pages, Title, Area}
-use Rattle.ctr_area.specs.Chains.{pages_bound}
-use Rattle.ctr_area.specs.Changes.{with_firsts, with_bucket, with_title, ChangesEntry, new_title, empty_chains}
-use Rattle.ctr_area.specs.Images.{is_committed_in, is_live, made_by_entry}
-use Rattle.ctr_area.specs.Sound.{IsAmong, IsSchemaItem, xids_in}
-use Rattle.ctr_record_laws.specs.Owed.{OwedByAbort, OwedByCommit, Reverting, OwedByRevert, reverted_at, RowMove, loses_head, row_moved, row_counted, OwedByRow, OwedByCreate, OwedByDrop, OwedByUncreate, OwedByUndrop, OwedByDying, OwedByFreeing, Trimming, OwedByTrim, trimmed_at, OwedByCut, cut_at, OwedByUnlink}
-use Rattle.ctr_record_laws.proofs.Begin.{xids_append}
-use Rattle.ctr_record_laws.proofs.Heads.{listed_open}
-use Rattle.ctr_record_laws.proofs.Members.{among_parts}
-use Rattle.ctr_record_laws.proofs.Xids.{HaveSameXids, both_same, more_same, less_same, aborted_less_same}
-use Rattle.ctr_page.specs.declared.rows.Place.{Place}
-use Rattle.ctr_record_laws.specs.Bounds.{IsInBounds}
-use Rattle.ctr_record_laws.proofs.Latest.{entry_of_item, create_isnt_drop, xid_of_item, title_here, title_apart}
-use Rattle.ctr_record_laws.proofs.Undone.{filter_among, among_filter}
+use Rattle.ctr_names.specs.meta_Wanted.TheVariants.{Creation, Dropping}
+use Rattle.ctr_names.specs.meta_Items.{is_schema_by, left_out}
+use Rattle.ctr_actions.specs.meta_Tables.{Tables, is_in, heads_in}
+use Rattle.ctr_actions.specs.meta_Effects.{opened_by, committed, rolled_back, forgotten_by, with_item, without_item, one_head_more, one_aborted_less}
+use Rattle.ctr_actions.specs.area_Areas.{no_pages, Title, Area}
+use Rattle.ctr_actions.specs.area_Chains.{pages_bound}
+use Rattle.ctr_actions.specs.area_Changes.{with_firsts, with_bucket, with_title, ChangesEntry, new_title, empty_chains}
+use Rattle.ctr_actions.specs.area_Images.{is_committed_in, is_live, made_by_entry}
+use Rattle.ctr_actions.specs.area_Sound.{IsAmong, IsSchemaItem, xids_in}
+use Rattle.ctr_actions.specs.record_laws_Owed.{OwedByAbort, OwedByCommit, Reverting, OwedByRevert, reverted_at, RowMove, loses_head, row_moved, row_counted, OwedByRow, OwedByCreate, OwedByDrop, OwedByUncreate, OwedByUndrop, OwedByDying, OwedByFreeing, Trimming, OwedByTrim, trimmed_at, OwedByCut, cut_at, OwedByUnlink}
+use Rattle.ctr_names.proofs.record_laws_Begin.{xids_append}
+use Rattle.ctr_names.proofs.record_laws_Heads.{listed_open}
+use Rattle.ctr_actions.proofs.record_laws_Members.{among_parts}
+use Rattle.ctr_actions.proofs.record_laws_Xids.{HaveSameXids, both_same, more_same, less_same, aborted_less_same}
+use Rattle.ctr_actions.specs.page_Place.{Place}
+use Rattle.ctr_actions.specs.record_laws_Bounds.{IsInBounds}
+use Rattle.ctr_names.proofs.record_laws_Latest.{entry_of_item, create_isnt_drop, xid_of_item, title_here, title_apart}
+use Rattle.ctr_names.proofs.record_laws_Undone.{filter_among, among_filter}
 use Rattle.ctr_names.proofs.Items.{left_keeps, left_fewer, schema_map}
 use Rattle.ctr_actions.proofs.Latest.{last_among}
 use Rattle.ctr_paged.specs.Paged.{Run, xids_of, engine_at, ShowsPaged}
@@ -50,7 +50,7 @@ use Rattle.ctr_paged.proofs.Catalog.{open_number, create_shows, drop_shows, dyin
 use Rattle.ctr_paged.proofs.Fates.{begin_shows, commit_shows, next_number}
 use Rattle.ctr_versions.specs.Undoing.{IsNotAtWork}
 use Rattle.ctr_versions.specs.Changes.{IsOld}
-use Rattle.ctr_meta.specs.declared.items.Wanted.{Wanted}
+use Rattle.ctr_names.specs.meta_Wanted.{Wanted}
 use Rattle.ctr_paged.proofs.Aborts.{abort_shows, orphan_shows, forget_shows}
 use Rattle.ctr_paged.proofs.Rows.{theirs, row_shows, revert_shows, trim_shows, cut_shows}
 use Rattle.ctr_paged.proofs.Emptied.{unlink_shows}

@@ -3,13 +3,13 @@ use Rattle.std.proofs.Common.{◌≡◌, ℕ, suc, ◌+◌, ◌<◌, ◌≤◌, 
 use Rattle.std.proofs.lemmas.Bool.{false≢true, le-leb, eqb-true}
 use Rattle.std.specs.List.{AllByRecursion}
 use Rattle.std.specs.Prelude.{◌&&◌, ◌||◌, not, nat_lt, is_some}
-use Rattle.ctr_area.specs.Areas.{Area}
-use Rattle.ctr_area.specs.Images.{is_committed_in}
-use Rattle.ctr_area.specs.Sound.{xids_in, IsSoundArea}
-use Rattle.ctr_meta.specs.Tables.{Tables, is_in, heads_at}
-use Rattle.ctr_record_laws.proofs.Members.{all_parts}
-use Rattle.ctr_record_laws.proofs.Xids.{in_among, not_both}
-use Rattle.ctr_record_laws.specs.Owed.{AgreeOnCommits}
+use Rattle.ctr_actions.specs.area_Areas.{Area}
+use Rattle.ctr_actions.specs.area_Images.{is_committed_in}
+use Rattle.ctr_actions.specs.area_Sound.{xids_in, IsSoundArea}
+use Rattle.ctr_actions.specs.meta_Tables.{Tables, is_in, heads_at}
+use Rattle.ctr_actions.proofs.record_laws_Members.{all_parts}
+use Rattle.ctr_actions.proofs.record_laws_Xids.{in_among, not_both}
+use Rattle.ctr_actions.specs.record_laws_Owed.{AgreeOnCommits}
 use Rattle.ctr_paged.specs.Paged.{xids_of}
 use Rattle.ctr_snap.specs.Seeing.{has}
 use Rattle.ctr_versions.proofs.Keys.{known}

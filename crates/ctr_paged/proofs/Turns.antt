@@ -15,14 +15,14 @@ use Rattle.ctr_versions.specs.Engine.{SessionHeld, EngineHeld, ShowsState}
 use Rattle.ctr_versions.specs.Laws.{IsGranted, mark_of, IsNoSessions}
 use Rattle.ctr_versions.specs.Changes.{IsOld}
 use Rattle.ctr_versions.proofs.Marks.{marked, marked_old, marked_shows}
-use Rattle.ctr_area.specs.Images.{is_committed_in}
+use Rattle.ctr_actions.specs.area_Images.{is_committed_in}
 use Rattle.ctr_versions.specs.Undoing.{IsNotAtWork}
 use Rattle.ctr_paged.proofs.Tables.{committed_same}
 use Rattle.ctr_versions.proofs.Steps.{begin_step, end_step, answer_step, undo_step}
 use Rattle.ctr_versions.proofs.Reading.{grants_shown}
-use Rattle.ctr_meta.specs.Tables.{is_in}
-use Rattle.ctr_area.specs.Chains.{pages_bound}
-use Rattle.ctr_record_laws.proofs.Grown.{grown_sound}
+use Rattle.ctr_actions.specs.meta_Tables.{is_in}
+use Rattle.ctr_actions.specs.area_Chains.{pages_bound}
+use Rattle.ctr_actions.proofs.record_laws_Grown.{grown_sound}
 use Rattle.ctr_actions.specs.Sites.{Site}
 use Rattle.ctr_paged.specs.Paged.{Run, xids_of, engine_at, ShowsPaged}
 use Rattle.ctr_names.specs.Stand.{IsDropNewer}

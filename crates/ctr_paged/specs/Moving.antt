@@ -15,13 +15,13 @@ use Rattle.ctr_versions.specs.Laws.{IsGranted, IsNoSessions, with_own}
 use Rattle.ctr_versions.specs.Steps.{AreUntouched, IsFreeKey}
 use Rattle.ctr_versions.specs.Versions.{Made, IsTableOf, name_written}
 use Rattle.ctr_versions.specs.Xids.{number_of, taken}
-use Rattle.ctr_meta.specs.Items.{left_out}
-use Rattle.ctr_meta.specs.declared.items.Wanted.{Wanted}
-use Rattle.ctr_meta.specs.declared.items.Wanted.TheVariants.{Creation, Dropping}
-use Rattle.ctr_area.specs.Changes.{new_title}
-use Rattle.ctr_area.specs.Images.{is_committed_in, made_by_entry}
-use Rattle.ctr_area.specs.Sound.{IsSchemaItem}
-use Rattle.ctr_record_laws.specs.Owed.{RowMove}
+use Rattle.ctr_names.specs.meta_Items.{left_out}
+use Rattle.ctr_names.specs.meta_Wanted.{Wanted}
+use Rattle.ctr_names.specs.meta_Wanted.TheVariants.{Creation, Dropping}
+use Rattle.ctr_actions.specs.area_Changes.{new_title}
+use Rattle.ctr_actions.specs.area_Images.{is_committed_in, made_by_entry}
+use Rattle.ctr_actions.specs.area_Sound.{IsSchemaItem}
+use Rattle.ctr_actions.specs.record_laws_Owed.{RowMove}
 use Rattle.ctr_actions.specs.Sites.{Site}
 use Rattle.ctr_actions.specs.Actions.{Action, Begins, Writes, Creates, Drops, Commits, Uncreates, Undrops, Aborts, Trims, Cuts, MakesDead}
 use Rattle.ctr_paged.specs.Paged.{Run, xids_of, engine_at}

@@ -7,12 +7,12 @@ use Rattle.ctr_model.specs.declared.state.Transaction.{Transaction}
 use Rattle.ctr_versions.specs.Xids.{Xids}
 use Rattle.ctr_versions.specs.Versions.{IsOrdered}
 use Rattle.ctr_versions.specs.Engine.{SessionHeld, EngineHeld, ShowsState}
-use Rattle.ctr_meta.specs.Tables.{Tables, is_in}
-use Rattle.ctr_area.specs.Areas.{Title}
-use Rattle.ctr_area.specs.Chains.{pages_bound}
-use Rattle.ctr_area.specs.Images.{is_committed_in, versions_in}
-use Rattle.ctr_area.specs.Sound.{xids_in}
-use Rattle.ctr_record_laws.specs.Bounds.{IsInBounds}
+use Rattle.ctr_actions.specs.meta_Tables.{Tables, is_in}
+use Rattle.ctr_actions.specs.area_Areas.{Title}
+use Rattle.ctr_actions.specs.area_Chains.{pages_bound}
+use Rattle.ctr_actions.specs.area_Images.{is_committed_in, versions_in}
+use Rattle.ctr_actions.specs.area_Sound.{xids_in}
+use Rattle.ctr_actions.specs.record_laws_Bounds.{IsInBounds}
 use Rattle.ctr_names.specs.Stand.{IsDropNewer}
 use Rattle.ctr_actions.specs.Sites.{Site, IsSoundSite}
 

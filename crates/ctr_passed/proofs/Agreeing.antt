@@ -6,14 +6,14 @@ use Rattle.ctr_bytes.specs.Fields.{field}
 use Rattle.ctr_bytes.specs.Following.{◌>>=◌}
 use Rattle.ctr_types.specs.declared.value.Kind.{Kind}
 use Rattle.ctr_types.specs.declared.value.Kind.TheVariants.{Int, Chars}
-use Rattle.ctr_value.specs.Payload.{field_width}
-use Rattle.ctr_rec.specs.declared.decoding.BadRecord.{BadRecord}
-use Rattle.ctr_rec.specs.Damage.{expect, at_most}
-use Rattle.ctr_page.specs.declared.checks.Chain.{Chain}
-use Rattle.ctr_page.specs.Places.{has_previous, previous_at, pointer_at, slot_size, kept_pointer_at, kept_size, room_for}
-use Rattle.ctr_page.specs.Columns.{column_kind_at, kinds_width}
-use Rattle.ctr_page.specs.Damage.{chain_kind, chain_entry, chain_bucket, counted_check, header_check, place_check, pointer_check, text_check, texts_check, version_check, some_version_check, previous_check, used_slot_check, used_kept_check, slot_check, kept_check, from_1_check, firsts_check, column_check, columns_check, used_entry_check, entry_check}
-use Rattle.ctr_page.proofs.Holding.{most_ok}
+use Rattle.ctr_actions.specs.value_Payload.{field_width}
+use Rattle.ctr_actions.specs.rec_BadRecord.{BadRecord}
+use Rattle.ctr_actions.specs.rec_Damage.{expect, at_most}
+use Rattle.ctr_actions.specs.page_Chain.{Chain}
+use Rattle.ctr_actions.specs.page_Places.{has_previous, previous_at, pointer_at, slot_size, kept_pointer_at, kept_size, room_for}
+use Rattle.ctr_actions.specs.page_Columns.{column_kind_at, kinds_width}
+use Rattle.ctr_actions.specs.page_Damage.{chain_kind, chain_entry, chain_bucket, counted_check, header_check, place_check, pointer_check, text_check, texts_check, version_check, some_version_check, previous_check, used_slot_check, used_kept_check, slot_check, kept_check, from_1_check, firsts_check, column_check, columns_check, used_entry_check, entry_check}
+use Rattle.ctr_actions.proofs.page_Holding.{most_ok}
 use Rattle.ctr_passed.specs.Laid.{SayTheSame}
 
 -- two checks, one after the other

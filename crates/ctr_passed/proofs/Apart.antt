@@ -2,20 +2,20 @@
 use Rattle.std.proofs.Common.{◌≡◌, ◌≢◌, ⊎_elim, ℕ, zero, suc, ◌+◌, ◌*◌, ◌/◌, ◌%◌, ◌<◌, ◌≤◌, false, cond, List, [], ◌∷◌, length, refl, sym, ◌∙◌, ap, subst, arith}
 use Rattle.std.proofs.lemmas.Bool.{eq-eqb, ne_eqb, cases_lt, cases_eq}
 use Rattle.ctr_bytes.specs.Fields.{field}
-use Rattle.ctr_rec.specs.declared.record.Record.{Record}
-use Rattle.ctr_redo.specs.Overlaid.{touches, changed_by}
-use Rattle.ctr_redo.specs.States.{State, pages_after, step, page_at}
-use Rattle.ctr_page.specs.declared.rows.Place.{Place}
-use Rattle.ctr_page.specs.Places.{start_of}
-use Rattle.ctr_page.specs.Reading.{put_over}
-use Rattle.ctr_area.specs.Changes.{with_page, with_in_entry}
-use Rattle.ctr_area.proofs.Bytes.{field_before}
-use Rattle.ctr_area.proofs.InEntry.{drop_put, field_behind}
-use Rattle.ctr_area.proofs.Places.{apart_rows}
-use Rattle.ctr_area.proofs.Written.{catalog_page}
-use Rattle.ctr_record_effects.specs.States.{pages_in, IsWholePage}
-use Rattle.ctr_record_effects.specs.Changing.{laid_in_entry, Lays}
-use Rattle.ctr_record_effects.proofs.Laid.{bytes_laid}
+use Rattle.ctr_actions.specs.rec_Record.{Record}
+use Rattle.ctr_actions.specs.ctr_redo.Overlaid.{touches, changed_by}
+use Rattle.ctr_actions.specs.ctr_redo.States.{State, pages_after, step, page_at}
+use Rattle.ctr_actions.specs.page_Place.{Place}
+use Rattle.ctr_actions.specs.page_Places.{start_of}
+use Rattle.ctr_actions.specs.page_Reading.{put_over}
+use Rattle.ctr_actions.specs.area_Changes.{with_page, with_in_entry}
+use Rattle.ctr_actions.proofs.area_Bytes.{field_before}
+use Rattle.ctr_actions.proofs.area_InEntry.{drop_put, field_behind}
+use Rattle.ctr_actions.proofs.area_Places.{apart_rows}
+use Rattle.ctr_actions.proofs.area_Written.{catalog_page}
+use Rattle.ctr_actions.specs.ctr_record_effects.States.{pages_in, IsWholePage}
+use Rattle.ctr_actions.specs.ctr_record_effects.Changing.{laid_in_entry, Lays}
+use Rattle.ctr_actions.proofs.record_effects_Laid.{bytes_laid}
 use Rattle.ctr_passed.specs.Laid.{SayTheSame, LiesOnMap, LiesOnOnePage, LiesInEntry, LiesAtPlace}
 use Rattle.ctr_passed.specs.Logged.{LaysAtPlace}
 

@@ -5,19 +5,19 @@ use Rattle.std.proofs.lemmas.Bool.{eq-eqb}
 use Rattle.ctr_types.specs.declared.value.Kind.{Kind}
 use Rattle.ctr_bytes.specs.Fields.{spelled, field}
 use Rattle.ctr_bytes.proofs.FieldLaws.{length-spelled, got_byte}
-use Rattle.ctr_rec.specs.Damage.{wrong, expect, at_most}
-use Rattle.ctr_page.specs.declared.checks.Chain.{Chain}
-use Rattle.ctr_page.specs.declared.checks.Chain.TheVariants.{Rows, Versions}
-use Rattle.ctr_page.specs.declared.header.Header.{Header}
-use Rattle.ctr_page.specs.Reading.{put_over, header_in}
-use Rattle.ctr_page.specs.Making.{header_bytes, IsHeader}
-use Rattle.ctr_page.specs.Columns.{slot_start, kept_start}
-use Rattle.ctr_page.specs.Damage.{chain_kind, chain_entry, chain_bucket, counted_check, header_check, used_slot_check, used_kept_check, slot_check, kept_check}
-use Rattle.ctr_page.proofs.Back.{header_back, length-more}
-use Rattle.ctr_area.specs.Areas.{Area}
-use Rattle.ctr_area.specs.Checked.{Passes, kinds_at}
-use Rattle.ctr_area.proofs.Bytes.{zero_at, byte_after}
-use Rattle.ctr_record_laws.specs.Owed.{rows_header, versions_header}
+use Rattle.ctr_actions.specs.rec_Damage.{wrong, expect, at_most}
+use Rattle.ctr_actions.specs.page_Chain.{Chain}
+use Rattle.ctr_actions.specs.page_Chain.TheVariants.{Rows, Versions}
+use Rattle.ctr_actions.specs.page_Header.{Header}
+use Rattle.ctr_actions.specs.page_Reading.{put_over, header_in}
+use Rattle.ctr_actions.specs.page_Making.{header_bytes, IsHeader}
+use Rattle.ctr_actions.specs.page_Columns.{slot_start, kept_start}
+use Rattle.ctr_actions.specs.page_Damage.{chain_kind, chain_entry, chain_bucket, counted_check, header_check, used_slot_check, used_kept_check, slot_check, kept_check}
+use Rattle.ctr_actions.proofs.page_Back.{header_back, length-more}
+use Rattle.ctr_actions.specs.area_Areas.{Area}
+use Rattle.ctr_actions.specs.area_Checked.{Passes, kinds_at}
+use Rattle.ctr_actions.proofs.area_Bytes.{zero_at, byte_after}
+use Rattle.ctr_actions.specs.record_laws_Owed.{rows_header, versions_header}
 use Rattle.ctr_passed.specs.Laid.{RowsPagePasses, OlderPagePasses}
 use Rattle.ctr_passed.proofs.Entries.{both_pass, most_passes}
 

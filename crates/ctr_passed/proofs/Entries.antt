@@ -5,20 +5,20 @@ use Rattle.std.proofs.lemmas.Bool.{eq-eqb, ne_eqb, lt-ltb, le-ltb, cases_lt, cas
 use Rattle.ctr_bytes.specs.Fields.{spelled, field}
 use Rattle.ctr_bytes.specs.Following.{◌>>=◌}
 use Rattle.ctr_bytes.proofs.FieldLaws.{length-spelled, got_byte}
-use Rattle.ctr_rec.specs.declared.decoding.BadRecord.{BadRecord}
-use Rattle.ctr_rec.specs.declared.record.Record.{Record}
-use Rattle.ctr_rec.specs.Damage.{wrong, at_most}
-use Rattle.ctr_redo.specs.States.{State, step}
-use Rattle.ctr_page.specs.Damage.{counted_check, firsts_check, used_entry_check, entry_check}
-use Rattle.ctr_page.specs.Reading.{piece, put_over}
-use Rattle.ctr_area.specs.Chains.{pages_bound}
-use Rattle.ctr_area.specs.Checked.{Passes}
-use Rattle.ctr_area.proofs.Bytes.{field_before, byte_here, byte_in_piece}
-use Rattle.ctr_area.proofs.InEntry.{field_put, drop_put, field_behind}
-use Rattle.ctr_record_effects.specs.Standing.{IsDatabaseState}
-use Rattle.ctr_record_effects.specs.States.{pages_in, area_in, IsWholePage}
-use Rattle.ctr_record_effects.specs.Changing.{laid_in_entry, Lays}
-use Rattle.ctr_record_effects.proofs.Laid.{bytes_laid}
+use Rattle.ctr_actions.specs.rec_BadRecord.{BadRecord}
+use Rattle.ctr_actions.specs.rec_Record.{Record}
+use Rattle.ctr_actions.specs.rec_Damage.{wrong, at_most}
+use Rattle.ctr_actions.specs.ctr_redo.States.{State, step}
+use Rattle.ctr_actions.specs.page_Damage.{counted_check, firsts_check, used_entry_check, entry_check}
+use Rattle.ctr_actions.specs.page_Reading.{piece, put_over}
+use Rattle.ctr_actions.specs.area_Chains.{pages_bound}
+use Rattle.ctr_actions.specs.area_Checked.{Passes}
+use Rattle.ctr_actions.proofs.area_Bytes.{field_before, byte_here, byte_in_piece}
+use Rattle.ctr_actions.proofs.area_InEntry.{field_put, drop_put, field_behind}
+use Rattle.ctr_actions.specs.ctr_record_effects.Standing.{IsDatabaseState}
+use Rattle.ctr_actions.specs.ctr_record_effects.States.{pages_in, area_in, IsWholePage}
+use Rattle.ctr_actions.specs.ctr_record_effects.Changing.{laid_in_entry, Lays}
+use Rattle.ctr_actions.proofs.record_effects_Laid.{bytes_laid}
 use Rattle.ctr_passed.specs.Laid.{EntryPasses}
 use Rattle.ctr_passed.proofs.Agreeing.{name_on_check, name_on_same, firsts_same}
 use Rattle.ctr_passed.proofs.Apart.{before_put, behind_put, page_there}

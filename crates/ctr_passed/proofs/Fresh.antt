@@ -10,15 +10,15 @@ use Rattle.ctr_types.specs.Names.{IsName}
 use Rattle.ctr_bytes.specs.Fields.{spelled, field}
 use Rattle.ctr_bytes.specs.Following.{◌>>=◌}
 use Rattle.ctr_bytes.proofs.FieldLaws.{length-spelled, field-drop}
-use Rattle.ctr_rec.specs.Damage.{wrong, at_most}
-use Rattle.ctr_rec.proofs.Laws.{Begins, begins_less, field_last}
-use Rattle.ctr_value.specs.Columns.{KindFits, ColumnFits, ColumnsFit, kind_number, column_bytes}
-use Rattle.ctr_page.specs.Columns.{column_kind_at, text_bytes, columns_bytes, new_entry_bytes}
-use Rattle.ctr_page.specs.Damage.{counted_check, from_1_check, firsts_check, column_check, columns_check, entry_check}
-use Rattle.ctr_page.specs.Reading.{put_over}
-use Rattle.ctr_page.proofs.Back.{begins_apart, length-more}
-use Rattle.ctr_page.proofs.Entries.{one_byte, as_others, column_is, kind_small, length-column}
-use Rattle.ctr_area.proofs.Made.{length-new}
+use Rattle.ctr_actions.specs.rec_Damage.{wrong, at_most}
+use Rattle.ctr_actions.proofs.rec_Laws.{Begins, begins_less, field_last}
+use Rattle.ctr_actions.specs.value_Columns.{KindFits, ColumnFits, ColumnsFit, kind_number, column_bytes}
+use Rattle.ctr_actions.specs.page_Columns.{column_kind_at, text_bytes, columns_bytes, new_entry_bytes}
+use Rattle.ctr_actions.specs.page_Damage.{counted_check, from_1_check, firsts_check, column_check, columns_check, entry_check}
+use Rattle.ctr_actions.specs.page_Reading.{put_over}
+use Rattle.ctr_actions.proofs.page_Back.{begins_apart, length-more}
+use Rattle.ctr_actions.proofs.page_Entries.{one_byte, as_others, column_is, kind_small, length-column}
+use Rattle.ctr_actions.proofs.area_Made.{length-new}
 use Rattle.ctr_passed.proofs.Agreeing.{name_on_check}
 use Rattle.ctr_passed.proofs.Entries.{both_pass, most_passes, parts_pass}
 

@@ -6,18 +6,18 @@ use Rattle.std.proofs.lemmas.Bool.{cases_lt, le-ltb, lt-ltb}
 use Rattle.ctr_types.specs.declared.value.Kind.{Kind}
 use Rattle.ctr_bytes.specs.Fields.{field}
 use Rattle.ctr_bytes.specs.Following.{◌>>=◌}
-use Rattle.ctr_rec.specs.Damage.{wrong, expect, at_most}
-use Rattle.ctr_rec.specs.declared.decoding.BadRecord.{BadRecord}
-use Rattle.ctr_page.specs.declared.checks.Chain.{Chain}
-use Rattle.ctr_page.specs.declared.checks.Chain.TheVariants.{Rows, Versions}
-use Rattle.ctr_page.specs.declared.rows.Place.{Place}
-use Rattle.ctr_page.specs.Damage.{chain_kind, chain_entry, chain_bucket, counted_check, header_check, place_check, pointer_check, used_slot_check, used_kept_check, slot_check, kept_check, firsts_check, used_entry_check, entry_check}
-use Rattle.ctr_page.specs.declared.table.TheConstants.{ENTRY_SIZE, FIRSTS_AT}
-use Rattle.ctr_page.specs.Places.{pointer_at, kept_pointer_at, kept_size, room_for}
-use Rattle.ctr_page.specs.Columns.{kinds_width, slot_start, kept_start}
-use Rattle.ctr_area.specs.Chains.{pages_bound, pages_from, slot_places, older_places}
-use Rattle.ctr_area.specs.Checked.{kinds_at, Passes, ArePassed, BucketsPass, ChainPasses, SlotPasses, OlderPasses}
-use Rattle.ctr_area.specs.Reading.{area_of}
+use Rattle.ctr_actions.specs.rec_Damage.{wrong, expect, at_most}
+use Rattle.ctr_actions.specs.rec_BadRecord.{BadRecord}
+use Rattle.ctr_actions.specs.page_Chain.{Chain}
+use Rattle.ctr_actions.specs.page_Chain.TheVariants.{Rows, Versions}
+use Rattle.ctr_actions.specs.page_Place.{Place}
+use Rattle.ctr_actions.specs.page_Damage.{chain_kind, chain_entry, chain_bucket, counted_check, header_check, place_check, pointer_check, used_slot_check, used_kept_check, slot_check, kept_check, firsts_check, used_entry_check, entry_check}
+use Rattle.ctr_actions.specs.page_table_TheConstants.{ENTRY_SIZE, FIRSTS_AT}
+use Rattle.ctr_actions.specs.page_Places.{pointer_at, kept_pointer_at, kept_size, room_for}
+use Rattle.ctr_actions.specs.page_Columns.{kinds_width, slot_start, kept_start}
+use Rattle.ctr_actions.specs.area_Chains.{pages_bound, pages_from, slot_places, older_places}
+use Rattle.ctr_actions.specs.area_Checked.{kinds_at, Passes, ArePassed, BucketsPass, ChainPasses, SlotPasses, OlderPasses}
+use Rattle.ctr_actions.specs.area_Reading.{area_of}
 
 -- two checks, one after the other, each of which passes still
 both_pass : (r s u v : Result ⊤ BadRecord) → (Passes r → Passes u) → (Passes s → Passes v) → Passes (r >>= λ _. s) → Passes (u >>= λ _. v)

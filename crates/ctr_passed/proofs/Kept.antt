@@ -2,25 +2,25 @@
 use Rattle.std.proofs.Common.{◌≡◌, ⊎_elim, inl, inr, ℕ, zero, suc, ◌+◌, ◌<◌, ◌≤◌, ◌==◌, Bool, true, cond, List, [], ◌∷◌, length, replicate, slice_index, refl, sym, ◌∙◌, ap, subst, arith}
 use Rattle.std.specs.List.{flat_map}
 use Rattle.std.proofs.lemmas.Bool.{false≢true, eq-eqb}
-use Rattle.ctr_versions.proofs.Keys.{known}
-use Rattle.ctr_meta.specs.Tables.{Tables}
-use Rattle.ctr_page.specs.declared.header.Header.{Header}
-use Rattle.ctr_page.specs.declared.rows.Place.{Place}
-use Rattle.ctr_page.specs.Columns.{kinds_of}
-use Rattle.ctr_area.specs.Checked.{kinds_at}
-use Rattle.ctr_page.specs.Places.{bucket_of}
-use Rattle.ctr_area.specs.Areas.{Title, Firsts, Older, Area, no_pages}
-use Rattle.ctr_area.specs.Chains.{pages_bound, older_bound, pages_from, table_pages, slot_places, older_places, places_along, Leads}
-use Rattle.ctr_area.specs.Changes.{new_title, empty_chains}
-use Rattle.ctr_area.specs.Images.{is_committed_in, entry_numbers}
-use Rattle.ctr_area.specs.Sound.{IsAmong, IsKeptFor, EndsIn, IsOfRows, IsOfVersions, along, page_of_item, owned_pages}
-use Rattle.ctr_area.proofs.Buckets.{each_of, of_bucket, nothing_from_0}
-use Rattle.ctr_record_laws.specs.Bounds.{IsInBounds}
-use Rattle.ctr_record_laws.specs.Owed.{Writing, OverHead, HeadMoves, PreviousKept, HeadKept, FirstVersion, RowMove, OwedByRow, OwedByFormat, FitsWriting, IsFirstPassing}
-use Rattle.ctr_record_laws.proofs.Ends.{behind_chain, bucket_chain, page_ends}
-use Rattle.ctr_record_laws.proofs.Format.{item_alone, item_page}
-use Rattle.ctr_record_laws.proofs.Members.{among_rest}
-use Rattle.ctr_record_laws.proofs.Unlinks.{above_zero}
+use Rattle.ctr_actions.proofs.versions_Keys.{known}
+use Rattle.ctr_actions.specs.meta_Tables.{Tables}
+use Rattle.ctr_actions.specs.page_Header.{Header}
+use Rattle.ctr_actions.specs.page_Place.{Place}
+use Rattle.ctr_actions.specs.page_Columns.{kinds_of}
+use Rattle.ctr_actions.specs.area_Checked.{kinds_at}
+use Rattle.ctr_actions.specs.page_Places.{bucket_of}
+use Rattle.ctr_actions.specs.area_Areas.{Title, Firsts, Older, Area, no_pages}
+use Rattle.ctr_actions.specs.area_Chains.{pages_bound, older_bound, pages_from, table_pages, slot_places, older_places, places_along, Leads}
+use Rattle.ctr_actions.specs.area_Changes.{new_title, empty_chains}
+use Rattle.ctr_actions.specs.area_Images.{is_committed_in, entry_numbers}
+use Rattle.ctr_actions.specs.area_Sound.{IsAmong, IsKeptFor, EndsIn, IsOfRows, IsOfVersions, along, page_of_item, owned_pages}
+use Rattle.ctr_actions.proofs.area_Buckets.{each_of, of_bucket, nothing_from_0}
+use Rattle.ctr_actions.specs.record_laws_Bounds.{IsInBounds}
+use Rattle.ctr_actions.specs.record_laws_Owed.{Writing, OverHead, HeadMoves, PreviousKept, HeadKept, FirstVersion, RowMove, OwedByRow, OwedByFormat, FitsWriting, IsFirstPassing}
+use Rattle.ctr_actions.proofs.record_laws_Ends.{behind_chain, bucket_chain, page_ends}
+use Rattle.ctr_actions.proofs.record_laws_Format.{item_alone, item_page}
+use Rattle.ctr_actions.proofs.record_laws_Members.{among_rest}
+use Rattle.ctr_actions.proofs.record_laws_Unlinks.{above_zero}
 use Rattle.ctr_actions.specs.Sites.{Site, IsSoundSite}
 use Rattle.ctr_actions.specs.Actions.{Action, Begins, Allocates, Formats, Links, LinksOlder, Keeps, Writes, Creates, Drops, Commits, Frees, Uncreates, Undrops, Aborts, Reclaims, Reverts, Trims, Cuts, FreesOlder, MakesDead, Unlinks, UnlinksOlder, FreesEntry, Forgets, Checkpoints, Owes, site_after}
 use Rattle.ctr_passed.specs.Laid.{RowsPagePasses, OlderPagePasses, LiesAs, LaidPasses}

@@ -3,23 +3,23 @@ use Rattle.std.proofs.Common.{◌≡◌, ◌≢◌, ⊎_elim, inl, ℕ, ◌+◌,
 use Rattle.std.specs.Prelude.{◌==◌}
 use Rattle.std.specs.List.{flat_map}
 use Rattle.std.proofs.lemmas.Bool.{eqb-true, cases_lt, cases_eq}
-use Rattle.ctr_page.specs.declared.header.Header.{Header}
-use Rattle.ctr_area.specs.Areas.{Firsts, Area, no_pages}
-use Rattle.ctr_area.specs.Chains.{pages_bound, pages_from, table_pages}
-use Rattle.ctr_area.specs.Images.{entry_numbers, is_live}
-use Rattle.ctr_area.specs.Sound.{IsAmong, IsOfRows, IsOfVersions, EndsIn, page_of_item, owned_pages}
-use Rattle.ctr_area.proofs.Buckets.{each_of}
-use Rattle.ctr_redo.specs.States.{State}
-use Rattle.ctr_record_laws.specs.Bounds.{IsInBounds}
-use Rattle.ctr_record_laws.specs.Owed.{OwedByFormat, first_page, OwedByUnlink, OwedByOlderUnlink}
-use Rattle.ctr_record_laws.proofs.Bounds.{pages_bounded}
-use Rattle.ctr_record_laws.proofs.Ends.{steps, page_goes_on, behind_chain, bucket_chain}
-use Rattle.ctr_record_laws.proofs.Format.{item_page, page_inside}
-use Rattle.ctr_record_laws.proofs.Members.{among_front, among_rest}
-use Rattle.ctr_record_laws.proofs.Owned.{in_all}
-use Rattle.ctr_record_laws.proofs.Unlinks.{above_zero}
-use Rattle.ctr_record_effects.specs.Standing.{IsDatabaseState}
-use Rattle.ctr_record_effects.specs.States.{pages_in, area_in}
+use Rattle.ctr_actions.specs.page_Header.{Header}
+use Rattle.ctr_actions.specs.area_Areas.{Firsts, Area, no_pages}
+use Rattle.ctr_actions.specs.area_Chains.{pages_bound, pages_from, table_pages}
+use Rattle.ctr_actions.specs.area_Images.{entry_numbers, is_live}
+use Rattle.ctr_actions.specs.area_Sound.{IsAmong, IsOfRows, IsOfVersions, EndsIn, page_of_item, owned_pages}
+use Rattle.ctr_actions.proofs.area_Buckets.{each_of}
+use Rattle.ctr_actions.specs.ctr_redo.States.{State}
+use Rattle.ctr_actions.specs.record_laws_Bounds.{IsInBounds}
+use Rattle.ctr_actions.specs.record_laws_Owed.{OwedByFormat, first_page, OwedByUnlink, OwedByOlderUnlink}
+use Rattle.ctr_actions.proofs.record_laws_Bounds.{pages_bounded}
+use Rattle.ctr_actions.proofs.record_laws_Ends.{steps, page_goes_on, behind_chain, bucket_chain}
+use Rattle.ctr_actions.proofs.record_laws_Format.{item_page, page_inside}
+use Rattle.ctr_actions.proofs.record_laws_Members.{among_front, among_rest}
+use Rattle.ctr_actions.proofs.record_laws_Owned.{in_all}
+use Rattle.ctr_actions.proofs.record_laws_Unlinks.{above_zero}
+use Rattle.ctr_actions.specs.ctr_record_effects.Standing.{IsDatabaseState}
+use Rattle.ctr_actions.specs.ctr_record_effects.States.{pages_in, area_in}
 use Rattle.ctr_passed.proofs.Passing.{in_rows, in_versions}
 use Rattle.ctr_passed.proofs.Reshaped.{behind_it}
 

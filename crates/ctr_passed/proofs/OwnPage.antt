@@ -1,10 +1,10 @@
 -- A page of one's own stays as it is over another's action.
 use Rattle.std.proofs.Common.{◌≡◌, ℕ, ◌≤◌, List, sym, arith}
-use Rattle.ctr_page.specs.declared.header.Header.{Header}
-use Rattle.ctr_area.specs.Chains.{older_bound}
-use Rattle.ctr_area.specs.Sound.{along}
-use Rattle.ctr_record_laws.specs.Bounds.{IsInBounds}
-use Rattle.ctr_record_laws.specs.Owed.{OwedByFormat}
+use Rattle.ctr_actions.specs.page_Header.{Header}
+use Rattle.ctr_actions.specs.area_Chains.{older_bound}
+use Rattle.ctr_actions.specs.area_Sound.{along}
+use Rattle.ctr_actions.specs.record_laws_Bounds.{IsInBounds}
+use Rattle.ctr_actions.specs.record_laws_Owed.{OwedByFormat}
 use Rattle.ctr_actions.specs.Sites.{Site, IsSoundSite}
 use Rattle.ctr_actions.specs.Actions.{Action, Begins, Allocates, Formats, Links, LinksOlder, Keeps, Writes, Creates, Drops, Commits, Frees, Uncreates, Undrops, Aborts, Reclaims, Reverts, Trims, Cuts, FreesOlder, MakesDead, Unlinks, UnlinksOlder, FreesEntry, Forgets, Checkpoints, Owes}
 use Rattle.ctr_actions.specs.Facts.{HasBlank, IsBeside}

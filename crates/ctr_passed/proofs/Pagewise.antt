@@ -1,17 +1,17 @@
 -- Pages that pass, page by page: what `ArePassed` says of the lists of a table's places, said of each page of its
 -- chains.
 use Rattle.std.proofs.Common.{◌≡◌, inl, inr, ℕ, zero, suc, ◌+◌, ◌<◌, List, [], ◌∷◌, length, slice_index, sym, subst, arith}
-use Rattle.ctr_page.specs.declared.checks.Chain.TheVariants.{Rows, Versions}
-use Rattle.ctr_page.specs.Damage.{header_check}
-use Rattle.ctr_area.specs.Areas.{Area}
-use Rattle.ctr_area.specs.Reading.{area_of}
-use Rattle.ctr_area.specs.Chains.{pages_bound, pages_from, places_from, slot_places, older_places}
-use Rattle.ctr_area.specs.Checked.{Passes, BucketsPass, ChainPasses, SlotPasses, OlderPasses, ArePassed}
-use Rattle.ctr_area.specs.Sound.{IsAmong}
-use Rattle.ctr_area.proofs.Buckets.{each_of, on_chain, in_chain}
-use Rattle.ctr_record_laws.proofs.Ends.{one_among}
-use Rattle.ctr_record_laws.proofs.Members.{among_flat}
-use Rattle.ctr_record_laws.proofs.Owning.{all_of}
+use Rattle.ctr_actions.specs.page_Chain.TheVariants.{Rows, Versions}
+use Rattle.ctr_actions.specs.page_Damage.{header_check}
+use Rattle.ctr_actions.specs.area_Areas.{Area}
+use Rattle.ctr_actions.specs.area_Reading.{area_of}
+use Rattle.ctr_actions.specs.area_Chains.{pages_bound, pages_from, places_from, slot_places, older_places}
+use Rattle.ctr_actions.specs.area_Checked.{Passes, BucketsPass, ChainPasses, SlotPasses, OlderPasses, ArePassed}
+use Rattle.ctr_actions.specs.area_Sound.{IsAmong}
+use Rattle.ctr_actions.proofs.area_Buckets.{each_of, on_chain, in_chain}
+use Rattle.ctr_actions.proofs.record_laws_Ends.{one_among}
+use Rattle.ctr_actions.proofs.record_laws_Members.{among_flat}
+use Rattle.ctr_actions.proofs.record_laws_Owning.{all_of}
 use Rattle.ctr_passed.specs.Laid.{EntryPasses, RowsPagePasses, OlderPagePasses}
 
 -- the first page of a bucket

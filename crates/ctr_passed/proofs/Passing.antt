@@ -3,24 +3,24 @@ use Rattle.std.proofs.Common.{◌≡◌, ⊎_elim, ℕ, ◌+◌, ◌*◌, ◌/�
 use Rattle.std.specs.List.{flat_map, AllByRecursion}
 use Rattle.std.proofs.lemmas.Bool.{cases_eq}
 use Rattle.std.proofs.lemmas.Nat.{div_below}
-use Rattle.ctr_meta.specs.Tables.{Tables}
-use Rattle.ctr_page.specs.declared.checks.Chain.TheVariants.{Rows, Versions}
-use Rattle.ctr_page.specs.declared.rows.Place.{Place}
-use Rattle.ctr_page.specs.Columns.{kinds_width, slot_start, kept_start}
-use Rattle.ctr_page.specs.Damage.{header_check, slot_check, kept_check, entry_check}
-use Rattle.ctr_page.specs.Places.{slot_size, kept_size}
-use Rattle.ctr_area.specs.Areas.{Area}
-use Rattle.ctr_area.specs.Chains.{pages_bound, pages_from, places_from, table_pages, slot_places, older_places}
-use Rattle.ctr_area.specs.Checked.{Passes, kinds_at}
-use Rattle.ctr_area.specs.Images.{entry_numbers}
-use Rattle.ctr_area.specs.Sound.{IsAmong, IsOfRows, IsOfVersions, page_of_item, owned_pages, IsSoundArea}
-use Rattle.ctr_area.proofs.Buckets.{each_of, on_chain}
-use Rattle.ctr_record_laws.specs.Bounds.{IsInBounds}
-use Rattle.ctr_record_laws.proofs.Away.{place_on_chains}
-use Rattle.ctr_record_laws.proofs.Ends.{one_among, bucket_chain}
-use Rattle.ctr_record_laws.proofs.Format.{page_inside}
-use Rattle.ctr_record_laws.proofs.Members.{among_front, among_rest, among_flat}
-use Rattle.ctr_record_laws.proofs.Owned.{in_all}
+use Rattle.ctr_actions.specs.meta_Tables.{Tables}
+use Rattle.ctr_actions.specs.page_Chain.TheVariants.{Rows, Versions}
+use Rattle.ctr_actions.specs.page_Place.{Place}
+use Rattle.ctr_actions.specs.page_Columns.{kinds_width, slot_start, kept_start}
+use Rattle.ctr_actions.specs.page_Damage.{header_check, slot_check, kept_check, entry_check}
+use Rattle.ctr_actions.specs.page_Places.{slot_size, kept_size}
+use Rattle.ctr_actions.specs.area_Areas.{Area}
+use Rattle.ctr_actions.specs.area_Chains.{pages_bound, pages_from, places_from, table_pages, slot_places, older_places}
+use Rattle.ctr_actions.specs.area_Checked.{Passes, kinds_at}
+use Rattle.ctr_actions.specs.area_Images.{entry_numbers}
+use Rattle.ctr_actions.specs.area_Sound.{IsAmong, IsOfRows, IsOfVersions, page_of_item, owned_pages, IsSoundArea}
+use Rattle.ctr_actions.proofs.area_Buckets.{each_of, on_chain}
+use Rattle.ctr_actions.specs.record_laws_Bounds.{IsInBounds}
+use Rattle.ctr_actions.proofs.record_laws_Away.{place_on_chains}
+use Rattle.ctr_actions.proofs.record_laws_Ends.{one_among, bucket_chain}
+use Rattle.ctr_actions.proofs.record_laws_Format.{page_inside}
+use Rattle.ctr_actions.proofs.record_laws_Members.{among_front, among_rest, among_flat}
+use Rattle.ctr_actions.proofs.record_laws_Owned.{in_all}
 use Rattle.ctr_passed.specs.Laid.{LiesOnMap, LiesOnOnePage, LiesInEntry, LiesAtPlace, EntryPasses, RowsPagePasses, OlderPagePasses}
 use Rattle.ctr_passed.proofs.Agreeing.{slot_same, kept_same, header_same, entry_same}
 use Rattle.ctr_passed.proofs.Pagewise.{index_of, bucket_at, PassedIn}

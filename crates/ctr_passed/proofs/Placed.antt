@@ -2,24 +2,24 @@
 -- those of before.
 use Rattle.std.proofs.Common.{◌≡◌, ℕ, ◌+◌, ◌*◌, ◌/◌, ◌%◌, ◌≤◌, cond, List, [], sym, ◌∙◌, ap, subst, arith}
 use Rattle.std.specs.Prelude.{nat_lt}
-use Rattle.ctr_versions.proofs.Keys.{known}
+use Rattle.ctr_actions.proofs.versions_Keys.{known}
 use Rattle.ctr_types.specs.declared.value.Kind.{Kind}
-use Rattle.ctr_rec.specs.declared.record.Record.{Record}
-use Rattle.ctr_redo.specs.States.{State, step}
-use Rattle.ctr_page.specs.declared.rows.Place.{Place}
-use Rattle.ctr_page.specs.declared.rows.RowSlot.{RowSlot}
-use Rattle.ctr_page.specs.declared.rows.VersionEntry.{VersionEntry}
-use Rattle.ctr_page.specs.Places.{start_of}
-use Rattle.ctr_page.specs.Reading.{piece, put_over}
-use Rattle.ctr_page.specs.Columns.{kinds_of, columns_in, slot_start, kept_start}
-use Rattle.ctr_page.specs.Damage.{slot_check, kept_check}
-use Rattle.ctr_page.specs.Making.{slot_bytes, kept_bytes}
-use Rattle.ctr_area.specs.Reading.{entry_bytes}
-use Rattle.ctr_area.specs.Checked.{Passes, kinds_at}
-use Rattle.ctr_area.proofs.Places.{below}
-use Rattle.ctr_area.proofs.Written.{catalog_page}
-use Rattle.ctr_record_effects.specs.States.{pages_in, area_in}
-use Rattle.ctr_record_effects.proofs.Laid.{bytes_laid}
+use Rattle.ctr_actions.specs.rec_Record.{Record}
+use Rattle.ctr_actions.specs.ctr_redo.States.{State, step}
+use Rattle.ctr_actions.specs.page_Place.{Place}
+use Rattle.ctr_actions.specs.page_RowSlot.{RowSlot}
+use Rattle.ctr_actions.specs.page_VersionEntry.{VersionEntry}
+use Rattle.ctr_actions.specs.page_Places.{start_of}
+use Rattle.ctr_actions.specs.page_Reading.{piece, put_over}
+use Rattle.ctr_actions.specs.page_Columns.{kinds_of, columns_in, slot_start, kept_start}
+use Rattle.ctr_actions.specs.page_Damage.{slot_check, kept_check}
+use Rattle.ctr_actions.specs.page_Making.{slot_bytes, kept_bytes}
+use Rattle.ctr_actions.specs.area_Reading.{entry_bytes}
+use Rattle.ctr_actions.specs.area_Checked.{Passes, kinds_at}
+use Rattle.ctr_actions.proofs.area_Places.{below}
+use Rattle.ctr_actions.proofs.area_Written.{catalog_page}
+use Rattle.ctr_actions.specs.ctr_record_effects.States.{pages_in, area_in}
+use Rattle.ctr_actions.proofs.record_effects_Laid.{bytes_laid}
 use Rattle.ctr_passed.specs.Laid.{width_in, slot_size_in, older_size_in, SlotPassesIn, OlderPassesIn}
 use Rattle.ctr_passed.specs.Logged.{LaysAtPlace, LaysSlot, LaysOlder}
 use Rattle.ctr_passed.proofs.Apart.{place_lies, page_there}

@@ -2,29 +2,29 @@
 use Rattle.std.proofs.Common.{◌≡◌, ℕ, ◌≤◌, ◌<◌, cond, drop, sym, ◌∙◌, ap, subst, arith}
 use Rattle.std.specs.List.{flat_map}
 use Rattle.std.proofs.lemmas.Bool.{eq-eqb}
-use Rattle.ctr_value.specs.Payload.{width}
-use Rattle.ctr_rec.specs.declared.record.Record.{Record}
-use Rattle.ctr_redo.specs.States.{State}
-use Rattle.ctr_page.specs.declared.rows.Place.{Place}
-use Rattle.ctr_page.specs.declared.rows.RowSlot.{RowSlot}
-use Rattle.ctr_page.specs.declared.rows.VersionEntry.{VersionEntry}
-use Rattle.ctr_page.specs.Places.{slot_size, kept_size, start_of, room_for}
-use Rattle.ctr_page.specs.Columns.{columns_in}
-use Rattle.ctr_page.proofs.Back.{length-slot, length-kept}
-use Rattle.ctr_page.proofs.Holding.{kinds_wide}
-use Rattle.ctr_page.proofs.Searches.{lies_on_page}
-use Rattle.ctr_area.specs.Areas.{Area}
-use Rattle.ctr_area.specs.Chains.{pages_bound, pages_from, places_from, slot_places, older_places}
-use Rattle.ctr_area.specs.Reading.{entry_bytes, width_on, size_on}
-use Rattle.ctr_area.specs.Sound.{IsAmong}
-use Rattle.ctr_area.proofs.Buckets.{on_chain}
-use Rattle.ctr_area.proofs.Written.{one_of_two}
-use Rattle.ctr_record_laws.specs.Bounds.{IsInBounds}
-use Rattle.ctr_record_laws.proofs.Away.{place_on_chains}
-use Rattle.ctr_record_laws.proofs.Bounds.{pages_bounded}
-use Rattle.ctr_record_laws.proofs.Members.{among_front, among_flat}
-use Rattle.ctr_record_effects.specs.Standing.{IsDatabaseState}
-use Rattle.ctr_record_effects.specs.States.{pages_in, area_in}
+use Rattle.ctr_actions.specs.value_Payload.{width}
+use Rattle.ctr_actions.specs.rec_Record.{Record}
+use Rattle.ctr_actions.specs.ctr_redo.States.{State}
+use Rattle.ctr_actions.specs.page_Place.{Place}
+use Rattle.ctr_actions.specs.page_RowSlot.{RowSlot}
+use Rattle.ctr_actions.specs.page_VersionEntry.{VersionEntry}
+use Rattle.ctr_actions.specs.page_Places.{slot_size, kept_size, start_of, room_for}
+use Rattle.ctr_actions.specs.page_Columns.{columns_in}
+use Rattle.ctr_actions.proofs.page_Back.{length-slot, length-kept}
+use Rattle.ctr_actions.proofs.page_Holding.{kinds_wide}
+use Rattle.ctr_actions.proofs.page_Searches.{lies_on_page}
+use Rattle.ctr_actions.specs.area_Areas.{Area}
+use Rattle.ctr_actions.specs.area_Chains.{pages_bound, pages_from, places_from, slot_places, older_places}
+use Rattle.ctr_actions.specs.area_Reading.{entry_bytes, width_on, size_on}
+use Rattle.ctr_actions.specs.area_Sound.{IsAmong}
+use Rattle.ctr_actions.proofs.area_Buckets.{on_chain}
+use Rattle.ctr_actions.proofs.area_Written.{one_of_two}
+use Rattle.ctr_actions.specs.record_laws_Bounds.{IsInBounds}
+use Rattle.ctr_actions.proofs.record_laws_Away.{place_on_chains}
+use Rattle.ctr_actions.proofs.record_laws_Bounds.{pages_bounded}
+use Rattle.ctr_actions.proofs.record_laws_Members.{among_front, among_flat}
+use Rattle.ctr_actions.specs.ctr_record_effects.Standing.{IsDatabaseState}
+use Rattle.ctr_actions.specs.ctr_record_effects.States.{pages_in, area_in}
 use Rattle.ctr_passed.specs.Laid.{width_in, slot_size_in, older_size_in}
 use Rattle.ctr_passed.specs.Logged.{LaysSlot, LaysOlder, PutsSlot, PutsOlder}
 use Rattle.ctr_passed.proofs.Passing.{third, slot_header, of_versions, in_versions}

@@ -2,19 +2,19 @@
 use Rattle.std.proofs.Common.{◌≡◌, ◌≢◌, ◌⊎◌, ⊎_elim, inl, inr, ℕ, zero, suc, ◌<◌, ◌==◌, cond, List, [], ◌∷◌, length, set, slice_index, refl, sym, ◌∙◌, ap, subst, arith}
 use Rattle.std.proofs.lemmas.Bool.{eq-eqb, eqb-true, ne_eqb, cases_eq}
 use Rattle.ctr_types.specs.declared.value.Kind.{Kind}
-use Rattle.ctr_versions.proofs.Keys.{known}
-use Rattle.ctr_meta.specs.Tables.{Tables}
-use Rattle.ctr_page.specs.declared.header.Header.{Header}
-use Rattle.ctr_page.specs.Columns.{kinds_of, slot_start, kept_start}
-use Rattle.ctr_page.specs.Damage.{slot_check, kept_check}
-use Rattle.ctr_area.specs.Areas.{Title, Firsts, free_slot, free_older, Area}
-use Rattle.ctr_area.specs.Chains.{pages_bound, pages_from, table_pages}
-use Rattle.ctr_area.specs.Changes.{with_firsts, with_bucket, with_title, with_blank, room_by, ChangesEntry}
-use Rattle.ctr_area.specs.Checked.{Passes, kinds_at}
-use Rattle.ctr_area.specs.Sound.{IsAmong, IsSoundArea}
-use Rattle.ctr_record_laws.specs.Bounds.{IsInBounds}
-use Rattle.ctr_record_laws.proofs.Away.{IsSameOn, pages_same}
-use Rattle.ctr_record_laws.proofs.Ends.{steps, page_goes_on, page_ends}
+use Rattle.ctr_actions.proofs.versions_Keys.{known}
+use Rattle.ctr_actions.specs.meta_Tables.{Tables}
+use Rattle.ctr_actions.specs.page_Header.{Header}
+use Rattle.ctr_actions.specs.page_Columns.{kinds_of, slot_start, kept_start}
+use Rattle.ctr_actions.specs.page_Damage.{slot_check, kept_check}
+use Rattle.ctr_actions.specs.area_Areas.{Title, Firsts, free_slot, free_older, Area}
+use Rattle.ctr_actions.specs.area_Chains.{pages_bound, pages_from, table_pages}
+use Rattle.ctr_actions.specs.area_Changes.{with_firsts, with_bucket, with_title, with_blank, room_by, ChangesEntry}
+use Rattle.ctr_actions.specs.area_Checked.{Passes, kinds_at}
+use Rattle.ctr_actions.specs.area_Sound.{IsAmong, IsSoundArea}
+use Rattle.ctr_actions.specs.record_laws_Bounds.{IsInBounds}
+use Rattle.ctr_actions.proofs.record_laws_Away.{IsSameOn, pages_same}
+use Rattle.ctr_actions.proofs.record_laws_Ends.{steps, page_goes_on, page_ends}
 use Rattle.ctr_passed.specs.Laid.{RowsPagePasses, OlderPagePasses}
 use Rattle.ctr_passed.proofs.Pagewise.{bucket_at, PassedIn}
 use Rattle.ctr_passed.proofs.Passing.{of_rows, of_versions, in_rows, in_versions}

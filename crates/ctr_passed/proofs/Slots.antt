@@ -4,7 +4,7 @@ use Rattle.std.specs.Prelude.{IfSome}
 use Rattle.std.specs.Int.{w64, cast_unsigned}
 use Rattle.std.proofs.lemmas.Bool.{eq-eqb, ne_eqb, cases_eq}
 use Rattle.std.proofs.lemmas.List.{drop-take, drop-drop, drop_at, length-take-le}
-use Rattle.ctr_versions.proofs.Keys.{known}
+use Rattle.ctr_actions.proofs.versions_Keys.{known}
 use Rattle.ctr_types.specs.declared.value.Column.{Column}
 use Rattle.ctr_types.specs.declared.value.Kind.{Kind}
 use Rattle.ctr_types.specs.declared.value.Kind.TheVariants as kind
@@ -12,20 +12,20 @@ use Rattle.ctr_types.specs.declared.value.Value.{Value}
 use Rattle.ctr_types.specs.declared.value.Value.TheVariants as value
 use Rattle.ctr_bytes.specs.Fields.{field}
 use Rattle.ctr_bytes.proofs.FieldLaws.{length-spelled, field-drop, got_byte}
-use Rattle.ctr_value.specs.Values.{row_values}
-use Rattle.ctr_value.specs.Payload.{IsOf, AreOf, field_width, width, IsField, IsPayload, IsRowOf}
-use Rattle.ctr_rec.specs.Damage.{at_most}
-use Rattle.ctr_page.specs.declared.rows.RowSlot.{RowSlot}
-use Rattle.ctr_page.specs.declared.rows.VersionEntry.{VersionEntry}
-use Rattle.ctr_page.specs.Places.{has_previous, previous_at, pointer_at, kept_pointer_at, kept_size, room_for}
-use Rattle.ctr_page.specs.Reading.{piece, put_over, place_in, version_in, if_there, previous_in, slot_in, older_in}
-use Rattle.ctr_page.specs.Columns.{kinds_of, kinds_width}
-use Rattle.ctr_page.specs.Damage.{counted_check, place_check, pointer_check, text_check, texts_check, version_check, some_version_check, previous_check, used_slot_check, used_kept_check, slot_check, kept_check}
-use Rattle.ctr_page.specs.Making.{slot_bytes, kept_bytes}
-use Rattle.ctr_page.proofs.Back.{slot_back, kept_back}
-use Rattle.ctr_page.proofs.Holding.{kinds_wide}
-use Rattle.ctr_rec.proofs.Laws.{Begins}
-use Rattle.ctr_area.proofs.Bytes.{byte_in_piece}
+use Rattle.ctr_actions.specs.value_Values.{row_values}
+use Rattle.ctr_actions.specs.value_Payload.{IsOf, AreOf, field_width, width, IsField, IsPayload, IsRowOf}
+use Rattle.ctr_actions.specs.rec_Damage.{at_most}
+use Rattle.ctr_actions.specs.page_RowSlot.{RowSlot}
+use Rattle.ctr_actions.specs.page_VersionEntry.{VersionEntry}
+use Rattle.ctr_actions.specs.page_Places.{has_previous, previous_at, pointer_at, kept_pointer_at, kept_size, room_for}
+use Rattle.ctr_actions.specs.page_Reading.{piece, put_over, place_in, version_in, if_there, previous_in, slot_in, older_in}
+use Rattle.ctr_actions.specs.page_Columns.{kinds_of, kinds_width}
+use Rattle.ctr_actions.specs.page_Damage.{counted_check, place_check, pointer_check, text_check, texts_check, version_check, some_version_check, previous_check, used_slot_check, used_kept_check, slot_check, kept_check}
+use Rattle.ctr_actions.specs.page_Making.{slot_bytes, kept_bytes}
+use Rattle.ctr_actions.proofs.page_Back.{slot_back, kept_back}
+use Rattle.ctr_actions.proofs.page_Holding.{kinds_wide}
+use Rattle.ctr_actions.proofs.rec_Laws.{Begins}
+use Rattle.ctr_actions.proofs.area_Bytes.{byte_in_piece}
 use Rattle.ctr_passed.specs.Logged.{LeadsInside, IsVersionOf, IsSlotOf, IsOlderOf}
 use Rattle.ctr_passed.proofs.Entries.{both_pass, most_passes}
 

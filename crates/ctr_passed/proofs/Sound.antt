@@ -1,14 +1,14 @@
 -- A sound state stays sound.
 use Rattle.std.proofs.Common.{◌≡◌, ℕ, ◌<◌, ◌≤◌, refl, sym, subst, arith}
-use Rattle.ctr_meta.specs.Tables.{Tables}
-use Rattle.ctr_meta.specs.Effects.{one_head_more, one_head_less}
-use Rattle.ctr_record_laws.specs.Owed.{loses_head}
-use Rattle.ctr_record_laws.proofs.Xids.{both_same, more_same, less_same, aborted_less_same}
-use Rattle.ctr_area.specs.Chains.{pages_bound}
-use Rattle.ctr_redo.specs.States.{State, counting}
-use Rattle.ctr_record_effects.specs.States.{pages_in, area_in}
-use Rattle.ctr_record_effects.specs.Standing.{IsDatabaseState}
-use Rattle.ctr_record_laws.proofs.Grown.{grown_sound}
+use Rattle.ctr_actions.specs.meta_Tables.{Tables}
+use Rattle.ctr_actions.specs.meta_Effects.{one_head_more, one_head_less}
+use Rattle.ctr_actions.specs.record_laws_Owed.{loses_head}
+use Rattle.ctr_actions.proofs.record_laws_Xids.{both_same, more_same, less_same, aborted_less_same}
+use Rattle.ctr_actions.specs.area_Chains.{pages_bound}
+use Rattle.ctr_actions.specs.ctr_redo.States.{State, counting}
+use Rattle.ctr_actions.specs.ctr_record_effects.States.{pages_in, area_in}
+use Rattle.ctr_actions.specs.ctr_record_effects.Standing.{IsDatabaseState}
+use Rattle.ctr_actions.proofs.record_laws_Grown.{grown_sound}
 use Rattle.ctr_passed.proofs.Grown.{pages_more}
 use Rattle.ctr_actions.specs.Sites.{Site}
 use Rattle.ctr_actions.specs.Actions.{Action, Begins, Allocates, Formats, Links, LinksOlder, Keeps, Writes, Creates, Drops, Commits, Frees, Uncreates, Undrops, Aborts, Reclaims, Reverts, Trims, Cuts, FreesOlder, MakesDead, Unlinks, UnlinksOlder, FreesEntry, Forgets, Checkpoints, site_after}

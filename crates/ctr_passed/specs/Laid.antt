@@ -1,14 +1,14 @@
 -- Where the bytes of an action lie, and what of them must pass its checks.
 use Rattle.std.specs.Prelude.{◌≡◌, ◌≢◌, ℕ, ◌+◌, ◌*◌, ◌/◌, ◌%◌, ◌<◌, ◌≤◌, List}
 use Rattle.ctr_bytes.specs.Fields.{field}
-use Rattle.ctr_page.specs.declared.checks.Chain.TheVariants.{Rows, Versions}
-use Rattle.ctr_page.specs.declared.rows.Place.{Place}
-use Rattle.ctr_page.specs.declared.table.TheConstants.{ENTRY_SIZE, HEADER_SIZE}
-use Rattle.ctr_page.specs.Columns.{kinds_width, slot_start, kept_start}
-use Rattle.ctr_page.specs.Damage.{header_check, slot_check, kept_check, entry_check}
-use Rattle.ctr_page.specs.Places.{slot_size, kept_size, start_of}
-use Rattle.ctr_area.specs.Areas.{Area}
-use Rattle.ctr_area.specs.Checked.{Passes, kinds_at}
+use Rattle.ctr_actions.specs.page_Chain.TheVariants.{Rows, Versions}
+use Rattle.ctr_actions.specs.page_Place.{Place}
+use Rattle.ctr_actions.specs.page_table_TheConstants.{ENTRY_SIZE, HEADER_SIZE}
+use Rattle.ctr_actions.specs.page_Columns.{kinds_width, slot_start, kept_start}
+use Rattle.ctr_actions.specs.page_Damage.{header_check, slot_check, kept_check, entry_check}
+use Rattle.ctr_actions.specs.page_Places.{slot_size, kept_size, start_of}
+use Rattle.ctr_actions.specs.area_Areas.{Area}
+use Rattle.ctr_actions.specs.area_Checked.{Passes, kinds_at}
 use Rattle.ctr_actions.specs.Actions.{Action, Formats, Links, LinksOlder, Keeps, Writes, Creates, Drops, Uncreates, Undrops, Reverts, Trims, Cuts, FreesOlder, MakesDead, Unlinks, UnlinksOlder, FreesEntry}
 
 -- from a byte on, so many bytes say the same numbers

@@ -1,21 +1,21 @@
 -- Where the bytes of a record lie that is logged in a state, and what of them passes its checks.
 use Rattle.std.specs.Prelude.{◌≡◌, ◌≢◌, ℕ, ◌<◌, ◌≤◌, ℤ, IfSome, List, length, replicate}
-use Rattle.ctr_page.specs.declared.header.Header.{Header}
+use Rattle.ctr_actions.specs.page_Header.{Header}
 use Rattle.ctr_types.specs.declared.value.Column.{Column}
-use Rattle.ctr_page.specs.declared.rows.Place.{Place}
-use Rattle.ctr_page.specs.declared.rows.Version.{Version}
-use Rattle.ctr_page.specs.declared.rows.RowSlot.{RowSlot}
-use Rattle.ctr_page.specs.declared.rows.VersionEntry.{VersionEntry}
-use Rattle.ctr_page.specs.declared.table.TheConstants.{PAGE_SIZE}
-use Rattle.ctr_page.specs.Columns.{kinds_of, kinds_width}
-use Rattle.ctr_page.specs.Places.{kept_size, start_of, room_for}
-use Rattle.ctr_page.specs.Making.{header_bytes, slot_bytes, kept_bytes, IsSlot, IsEntry}
-use Rattle.ctr_page.specs.Readable.{HoldsRow}
-use Rattle.ctr_page.specs.Reading.{put_over}
-use Rattle.ctr_rec.specs.declared.record.Record.{Record}
-use Rattle.ctr_redo.specs.States.{State, step}
-use Rattle.ctr_record_effects.specs.States.{pages_in, area_in, IsWholePage}
-use Rattle.ctr_record_effects.specs.Changing.{laid_on_place, Lays}
+use Rattle.ctr_actions.specs.page_Place.{Place}
+use Rattle.ctr_actions.specs.page_Version.{Version}
+use Rattle.ctr_actions.specs.page_RowSlot.{RowSlot}
+use Rattle.ctr_actions.specs.page_VersionEntry.{VersionEntry}
+use Rattle.ctr_actions.specs.page_table_TheConstants.{PAGE_SIZE}
+use Rattle.ctr_actions.specs.page_Columns.{kinds_of, kinds_width}
+use Rattle.ctr_actions.specs.page_Places.{kept_size, start_of, room_for}
+use Rattle.ctr_actions.specs.page_Making.{header_bytes, slot_bytes, kept_bytes, IsSlot, IsEntry}
+use Rattle.ctr_actions.specs.page_Readable.{HoldsRow}
+use Rattle.ctr_actions.specs.page_Reading.{put_over}
+use Rattle.ctr_actions.specs.rec_Record.{Record}
+use Rattle.ctr_actions.specs.ctr_redo.States.{State, step}
+use Rattle.ctr_actions.specs.ctr_record_effects.States.{pages_in, area_in, IsWholePage}
+use Rattle.ctr_actions.specs.ctr_record_effects.Changing.{laid_on_place, Lays}
 use Rattle.ctr_actions.specs.Actions.{Action}
 use Rattle.ctr_passed.specs.Laid.{slot_size_in, older_size_in, width_in, LiesAs, LaidPasses}
 

@@ -1,6 +1,6 @@
 -- A backing in memory.
 use Rattle.std.proofs.Common.{◌≡◌, ◌≢◌, ℕ, zero, suc, ◌<◌, ◌≤◌, List, [], ◌∷◌, length, get_or, set, slice_get, Some, None, Err, refl, sym, ap, ◌∙◌, arith}
-use Rattle.ctr_types.specs.Faults.{HasFault, CountsFault}
+use Rattle.ctr_disk.specs.types_Faults.{HasFault, CountsFault}
 use Rattle.ctr_disk.specs.declared.fault.StoreFault.TheVariants.{Fault}
 use Rattle.ctr_pool.specs.declared.memory.Sheet.{Sheet}
 use Rattle.ctr_pool.specs.Memory.{held_on}

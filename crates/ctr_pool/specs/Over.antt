@@ -1,6 +1,6 @@
 -- A pool over what is held below it.
 use Rattle.std.specs.Prelude.{◌≡◌, ◌≢◌, ◌==◌, ◌+◌, ◌-◌, ℕ, ◌<◌, ◌≤◌, Bool, true, false, IsTrue, List, Option, None, Some, Result, IfErr, OnOk, if◌then◌else◌}
-use Rattle.ctr_types.specs.Faults.{HasFault}
+use Rattle.ctr_disk.specs.types_Faults.{HasFault}
 use Rattle.ctr_disk.specs.declared.fault.StoreFault.{StoreFault}
 use Rattle.ctr_disk.specs.declared.fault.StoreFault.TheVariants.{Fault}
 use Rattle.ctr_pool.specs.declared.backing.Backing.{Ghosts}

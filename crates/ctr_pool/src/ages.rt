@@ -3,8 +3,7 @@ ghost use Rattle.std.specs.Prelude.{◌≡◌, ◌==◌, ◌≤◌, ◌<◌, ◌
 ghost use Rattle.ctr_pool.specs.Kept.{age_of, first_age, AreByAge};
 
 use crate::Lsn;
-use ctr_rec::PageNo;
-use ctr_types::OutOfMemory;
+use ctr_rec::{OutOfMemory, PageNo};
 use std::alloc::Global;
 use std::marker::Model;
 

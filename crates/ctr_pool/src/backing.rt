@@ -1,6 +1,6 @@
 // What stands below a pool.
 ghost use Rattle.std.specs.Prelude.{◌≡◌, ◌≤◌, ◌<◌, Bool, IsTrue, ℕ, ⊤, Result, Err, length, IfOk, IfErr, OnOk, OnErr};
-ghost use Rattle.ctr_types.specs.Faults.{HasFault};
+ghost use Rattle.ctr_disk.specs.types_Faults.{HasFault};
 ghost use Rattle.ctr_disk.specs.declared.fault.StoreFault.{StoreFault as Wrong};
 ghost use Rattle.ctr_disk.specs.declared.fault.StoreFault.TheVariants.{Fault};
 ghost use Rattle.ctr_pool.specs.Pages.{PageHeld};

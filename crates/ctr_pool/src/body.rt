@@ -2,13 +2,12 @@
 ghost use Rattle.std.specs.Prelude.{◌≡◌, ◌≤◌, ◌+◌, ◌++◌, ℕ, List, length, take, drop, replicate, IsTrue, IfOk, IfErr, OnOk};
 ghost use Rattle.ctr_pool.specs.Pages.{PageHeld, overlaid_by};
 ghost use Rattle.ctr_pool.specs.Below.{HoldsStill, IsFound};
-ghost use Rattle.ctr_types.specs.Faults.{HasFault};
+ghost use Rattle.ctr_disk.specs.types_Faults.{HasFault};
 ghost use Rattle.ctr_disk.specs.declared.fault.StoreFault.TheVariants.{Fault};
 
 use crate::{Backing, Lsn};
 use ctr_disk::StoreFault;
-use ctr_rec::{Overlay, PageNo};
-use ctr_types::OutOfMemory;
+use ctr_rec::{OutOfMemory, Overlay, PageNo};
 use std::alloc::Global;
 use std::marker::Model;
 

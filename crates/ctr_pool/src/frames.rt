@@ -4,14 +4,13 @@ ghost use Rattle.std.specs.Option.{option_map};
 ghost use Rattle.ctr_pool.specs.declared.frame.Frame.{Frame as Framed};
 ghost use Rattle.ctr_pool.specs.Frames.{frame_of, has_page, since_in, page_of, since_then, after_change, after_save, dirty_count};
 ghost use Rattle.ctr_pool.specs.Below.{PutsPage};
-ghost use Rattle.ctr_types.specs.Faults.{HasFault};
+ghost use Rattle.ctr_disk.specs.types_Faults.{HasFault};
 ghost use Rattle.ctr_disk.specs.declared.fault.StoreFault.TheVariants.{Fault};
 
 use crate::finding::find;
 use crate::{Backing, Body, Frame, Lsn};
 use ctr_disk::StoreFault;
-use ctr_rec::{Overlay, PageNo};
-use ctr_types::OutOfMemory;
+use ctr_rec::{OutOfMemory, Overlay, PageNo};
 use std::alloc::Global;
 use std::marker::Model;
 

@@ -1,13 +1,12 @@
 // Pages below a pool, in memory.
 ghost use Rattle.std.specs.Prelude.{true, false, ◌≡◌, ◌≤◌, ◌+◌, ◌^◌, min, length, vec_len, replicate, IfOk, OnOk};
 ghost use Rattle.ctr_pool.specs.Memory.{sheet_at};
-ghost use Rattle.ctr_types.specs.Faults.{CountsFault};
+ghost use Rattle.ctr_disk.specs.types_Faults.{CountsFault};
 
 use crate::body::clear_all;
 use crate::{Backing, Body, Lsn};
 use ctr_disk::StoreFault;
-use ctr_rec::PageNo;
-use ctr_types::OutOfMemory;
+use ctr_rec::{OutOfMemory, PageNo};
 use std::alloc::Global;
 
 /// A page that is held.

@@ -11,8 +11,7 @@ use crate::ages::Ages;
 use crate::frames::Frames;
 use crate::{Backing, Body, Lsn};
 use ctr_disk::StoreFault;
-use ctr_rec::{Overlay, PageNo};
-use ctr_types::OutOfMemory;
+use ctr_rec::{OutOfMemory, Overlay, PageNo};
 use std::alloc::Global;
 use std::marker::Model;
 

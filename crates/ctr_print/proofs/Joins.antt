@@ -1,7 +1,7 @@
 -- Two texts printed are one, and what a printer's own calls leave.
 use Rattle.std.proofs.Common.{◌≡◌, Bool, true, false, List, ℕ, [], ◌++◌, take, drop, refl, sym, ◌∙◌, ap, subst, append_assoc}
 use Rattle.std.proofs.lemmas.List.{append-nil, take-append-drop}
-use Rattle.ctr_types.specs.Faults.{CountsFault}
+use Rattle.ctr_io.specs.types_Faults.{CountsFault}
 use Rattle.ctr_io.specs.declared.edges.Sink.{Ghosts}
 use Rattle.ctr_print.specs.declared.printer.Printer.{Printer}
 use Rattle.ctr_print.specs.Prints.{IsPart, HasPrinted, PrintsMore, Sends, PutsOn}

@@ -3,8 +3,8 @@ use Rattle.std.proofs.Common.{◌≡◌, ◌<◌, ◌+◌, List, ℕ, [], ◌∷
 use Rattle.std.proofs.lemmas.List.{append-nil, take_more}
 use Rattle.std.specs.List.{flat_map, count_by}
 use Rattle.std.proofs.lemmas.List.Recursion.{is_count_by}
-use Rattle.ctr_types.specs.declared.value.Value.{Value}
-use Rattle.ctr_types.specs.declared.tape.Entry.{Entry}
+use Rattle.ctr_model.specs.types_Value.{Value}
+use Rattle.ctr_model.specs.types_Entry.{Entry}
 use Rattle.ctr_model.specs.Tape.{is_answer, is_refused}
 use Rattle.ctr_model.specs.Texts.{value_text, values_text, answers, refusals}
 use Rattle.ctr_print.specs.Pieces.{Piece, piece_text, joined}

@@ -1,6 +1,6 @@
 -- What printing a text leaves on a sink.
 use Rattle.std.specs.Prelude.{◌≡◌, ℕ, Bool, true, false, IsTrue, Result, MatchResult, List, ◌++◌}
-use Rattle.ctr_types.specs.Faults.{CountsFault}
+use Rattle.ctr_io.specs.types_Faults.{CountsFault}
 use Rattle.ctr_io.specs.declared.edges.Sink.{Ghosts}
 use Rattle.ctr_print.specs.declared.printer.Printer.{Printer}
 

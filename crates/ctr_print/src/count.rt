@@ -3,7 +3,7 @@ ghost use Rattle.std.specs.Prelude.{◌≡◌};
 ghost use Rattle.ctr_model.specs.Tape.{is_answer, is_refused};
 ghost use Rattle.ctr_model.specs.Texts.{answers, refusals};
 
-use ctr_types::{Entry, Reply, Tape};
+use ctr_io::{Entry, Reply, Tape};
 
 fn is_answered(entry: &Entry) -> bool
     ensures { result ≡ is_answer entry.now.reply }

@@ -1,6 +1,6 @@
 // The last line of a run on a sink.
 ghost use Rattle.std.specs.Prelude.{◌≡◌, ◌≢◌, List};
-ghost use Rattle.ctr_types.specs.declared.tape.Entry.{Entry};
+ghost use Rattle.ctr_model.specs.types_Entry.{Entry};
 ghost use Rattle.ctr_model.specs.declared.tape.Cause.{Cause};
 ghost use Rattle.ctr_model.specs.declared.tape.Command.{Command};
 ghost use Rattle.ctr_model.specs.declared.tape.Report.{Report};
@@ -11,9 +11,8 @@ use crate::count::{count_answers, count_refusals};
 use crate::piece::Piece;
 use crate::pieces::put_pieces;
 use crate::printer::Printer;
-use ctr_io::Sink;
+use ctr_io::{File, Sink, Tape};
 use ctr_model::{Cause, Command, Report, Survey};
-use ctr_types::{File, Tape};
 
 fn put_end<K: Sink>(out: &mut Printer<K>, tape: &Tape, report: &Report)
     ensures { PrintsMore K.Sink (end_line tape.now.entries report.now) out.old out.new }

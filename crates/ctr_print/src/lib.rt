@@ -16,6 +16,7 @@ mod value;
 mod whole;
 
 pub use count::{count_answers, count_refusals};
+pub use ctr_io::{Column, Failed, Kind, List, OutOfMemory, Row, Schema, Sink, Text, Value};
 pub use last::put_last_line;
 pub use pieces::put_number;
 pub use printer::Printer;

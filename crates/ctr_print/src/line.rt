@@ -10,8 +10,7 @@ use crate::pieces::put_pieces;
 use crate::printer::Printer;
 use crate::refusal::put_refusal;
 use crate::value::put_row_line;
-use ctr_io::Sink;
-use ctr_types::{Act, Entry, Refusal, Reply, Row, Rows, Tape};
+use ctr_io::{Act, Entry, Refusal, Reply, Row, Rows, Sink, Tape};
 
 // Who was answered.
 fn put_head<K: Sink>(out: &mut Printer<K>, entry: &Entry)

@@ -1,7 +1,7 @@
 //! Texts on their way to a sink.
 ghost use Rattle.std.specs.Prelude.{◌≡◌, ◌≤◌, ◌+◌, ℕ, List, [], IsTrue, length};
 ghost use Rattle.arrayvec.specs.ArrayVec.{array_vec_len};
-ghost use Rattle.ctr_types.specs.Faults.{HasCause};
+ghost use Rattle.ctr_io.specs.types_Faults.{HasCause};
 ghost use Rattle.ctr_print.specs.Prints.{Printed, HasPrinted, PrintsMore, Sends, PutsOn};
 
 use arrayvec::ArrayVec;

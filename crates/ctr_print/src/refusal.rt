@@ -7,8 +7,7 @@ ghost use Rattle.ctr_print.specs.Prints.{PrintsMore};
 use crate::piece::Piece;
 use crate::pieces::put_pieces;
 use crate::printer::Printer;
-use ctr_io::Sink;
-use ctr_types::Refusal;
+use ctr_io::{Refusal, Sink};
 
 // The words of a refusal, and the number behind them where it has one.
 fn words_of(refusal: Refusal) -> (&'static [u8], Option<u64>)

@@ -6,8 +6,7 @@ ghost use Rattle.ctr_print.specs.Prints.{PrintsMore};
 use crate::form::{Form, put_each};
 use crate::pieces::put_number;
 use crate::printer::Printer;
-use ctr_io::Sink;
-use ctr_types::{Row, Value};
+use ctr_io::{Row, Sink, Value};
 
 // A byte of a text between quotes.
 struct Doubled;

@@ -6,9 +6,8 @@ ghost use Rattle.ctr_print.specs.Prints.{PrintsMore, PutsOn};
 use crate::last::put_last_line;
 use crate::line::put_transcript;
 use crate::printer::Printer;
-use ctr_io::Sink;
+use ctr_io::{Sink, Tape};
 use ctr_model::{Cause, Command, Report};
-use ctr_types::Tape;
 
 fn put_texts<K: Sink>(
     out: &mut Printer<K>,

@@ -5,22 +5,22 @@ use Rattle.ctr_disk.specs.declared.disk.Disk.{Ghosts}
 use Rattle.ctr_disk.specs.Image.{Image}
 use Rattle.ctr_disk.specs.declared.fault.StoreFault.{StoreFault}
 use Rattle.ctr_disk.specs.declared.fault.StoreFault.TheVariants.{Fault, Damaged}
-use Rattle.ctr_base.specs.Base.{IsSoundImage}
-use Rattle.ctr_store.specs.Store.{View}
+use Rattle.ctr_walk.specs.base_Base.{IsSoundImage}
+use Rattle.ctr_walk.specs.store_Store.{View}
 use Rattle.ctr_walk.specs.OneRecord.{LogsOne}
 use Rattle.ctr_walk.specs.Damage.{EndsTold}
-use Rattle.ctr_record_effects.specs.States.{pages_in}
+use Rattle.ctr_passed.specs.record_effects_States.{pages_in}
 use Rattle.ctr_page.specs.declared.rows.Place.{Place}
 use Rattle.ctr_page.specs.declared.walk.BadChain.{BadChain}
 use Rattle.ctr_page.specs.Places.{kept_size}
 use Rattle.ctr_page.specs.Columns.{kinds_width}
-use Rattle.ctr_area.specs.Reading.{width_on}
+use Rattle.ctr_passed.specs.area_Reading.{width_on}
 use Rattle.ctr_walk.specs.declared.table.TableOf.{TableOf}
 use Rattle.ctr_pvs.specs.Table.{TableSaid}
 use Rattle.ctr_walk.specs.Tables.{kinds_said}
 use Rattle.ctr_pvs.specs.Reading.{lies_check, PassesAt}
 use Rattle.ctr_pvs.specs.Writing.{blank_record, drop_check, DropsEntry}
-use Rattle.ctr_area.specs.Changes.{IsPlaceOf}
+use Rattle.ctr_passed.specs.area_Changes.{IsPlaceOf}
 use Rattle.ctr_pvs.proofs.Told.{page_of_table, by_table, place_of_version}
 
 -- damage that is told of one answer is told of another

@@ -10,17 +10,17 @@ use Rattle.ctr_page.specs.declared.walk.BadChain.{BadChain}
 use Rattle.ctr_page.specs.declared.rows.Place.{Place}
 use Rattle.ctr_page.specs.Places.{kept_size}
 use Rattle.ctr_page.specs.Reading.{older_at}
-use Rattle.ctr_area.specs.Areas.{free_older}
-use Rattle.ctr_area.specs.Reading.{older_said, header_on, columns_on, width_on}
+use Rattle.ctr_passed.specs.area_Areas.{free_older}
+use Rattle.ctr_passed.specs.area_Reading.{older_said, header_on, columns_on, width_on}
 use Rattle.ctr_types.specs.declared.value.Column.{Column}
 use Rattle.ctr_passed.specs.Logged.{IsOlderOf}
-use Rattle.ctr_base.specs.Base.{IsSoundImage}
-use Rattle.ctr_redo.specs.States.{State}
-use Rattle.ctr_store.specs.Store.{View, LeavesPage}
+use Rattle.ctr_walk.specs.base_Base.{IsSoundImage}
+use Rattle.ctr_passed.specs.redo_States.{State}
+use Rattle.ctr_walk.specs.store_Store.{View, LeavesPage}
 use Rattle.ctr_walk.specs.Damage.{damage_told, EndsTold}
 use Rattle.ctr_walk.proofs.Joins.{pages_join}
 use Rattle.ctr_walk.proofs.Damages.{reads}
-use Rattle.ctr_record_effects.specs.States.{pages_in}
+use Rattle.ctr_passed.specs.record_effects_States.{pages_in}
 use Rattle.ctr_walk.specs.declared.table.TableOf.{TableOf}
 use Rattle.ctr_pvs.specs.declared.lending.LentVersion.{LentVersion}
 use Rattle.ctr_pvs.specs.Table.{TableSaid}

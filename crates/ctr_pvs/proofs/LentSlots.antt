@@ -9,17 +9,17 @@ use Rattle.ctr_disk.specs.declared.fault.StoreFault.TheVariants.{Fault, Damaged}
 use Rattle.ctr_page.specs.declared.walk.BadChain.{BadChain}
 use Rattle.ctr_page.specs.declared.rows.Place.{Place}
 use Rattle.ctr_page.specs.Reading.{slot_at}
-use Rattle.ctr_area.specs.Areas.{free_slot}
-use Rattle.ctr_area.specs.Reading.{slot_said, header_on, columns_on, width_on}
+use Rattle.ctr_passed.specs.area_Areas.{free_slot}
+use Rattle.ctr_passed.specs.area_Reading.{slot_said, header_on, columns_on, width_on}
 use Rattle.ctr_types.specs.declared.value.Column.{Column}
 use Rattle.ctr_passed.specs.Logged.{IsSlotOf}
-use Rattle.ctr_base.specs.Base.{IsSoundImage}
-use Rattle.ctr_redo.specs.States.{State}
-use Rattle.ctr_store.specs.Store.{View, LeavesPage}
+use Rattle.ctr_walk.specs.base_Base.{IsSoundImage}
+use Rattle.ctr_passed.specs.redo_States.{State}
+use Rattle.ctr_walk.specs.store_Store.{View, LeavesPage}
 use Rattle.ctr_walk.specs.Damage.{damage_told, EndsTold}
 use Rattle.ctr_walk.proofs.Joins.{pages_join}
 use Rattle.ctr_walk.proofs.Damages.{reads}
-use Rattle.ctr_record_effects.specs.States.{pages_in}
+use Rattle.ctr_passed.specs.record_effects_States.{pages_in}
 use Rattle.ctr_walk.specs.declared.table.TableOf.{TableOf}
 use Rattle.ctr_pvs.specs.declared.slot.LentSlot.{LentSlot}
 use Rattle.ctr_pvs.specs.Table.{TableSaid}

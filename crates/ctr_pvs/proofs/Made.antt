@@ -3,13 +3,13 @@ use Rattle.std.proofs.Common.{◌≡◌, inl, inr, ℕ, ◌+◌, ◌-◌, ◌/�
 use Rattle.std.specs.Prelude.{IfOk, IfSome, ◌==◌}
 use Rattle.std.proofs.Math.Nat.{le-div_iff_mul-le}
 use Rattle.std.proofs.lemmas.Bool.{eq-eqb, eqb-true, ne_eqb, cases_eq}
-use Rattle.ctr_versions.proofs.Keys.{known}
+use Rattle.ctr_passed.proofs.versions_Keys.{known}
 use Rattle.ctr_types.specs.declared.value.Column.{Column}
 use Rattle.ctr_types.specs.declared.value.Kind.{Kind}
 use Rattle.ctr_bytes.specs.Fields.{field}
 use Rattle.ctr_bytes.specs.Following.{◌>>=◌}
 use Rattle.ctr_bytes.proofs.FieldLaws.{AreBytes}
-use Rattle.ctr_value.specs.Payload.{IsKeyed}
+use Rattle.ctr_page.specs.ctr_value.Payload.{IsKeyed}
 use Rattle.ctr_rec.specs.declared.decoding.BadRecord.{BadRecord}
 use Rattle.ctr_rec.specs.Damage.{at_most}
 use Rattle.ctr_page.specs.declared.rows.Version.{Version}

@@ -6,7 +6,7 @@ use Rattle.ctr_page.specs.declared.rows.VersionEntry.{VersionEntry}
 use Rattle.ctr_page.specs.Places.{kept_size, start_of}
 use Rattle.ctr_page.specs.Making.{kept_bytes, IsEntry}
 use Rattle.ctr_page.proofs.Back.{length-kept}
-use Rattle.ctr_store.specs.Store.{View, MayLog}
+use Rattle.ctr_walk.specs.store_Store.{View, MayLog}
 use Rattle.ctr_walk.specs.OneRecord.{HasRoomForOne}
 use Rattle.ctr_walk.proofs.Records.{one_may}
 use Rattle.ctr_pvs.specs.Writing.{entry_width, EntryLies, keep_record, blank_entry, blank_record}

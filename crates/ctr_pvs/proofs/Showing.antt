@@ -1,12 +1,12 @@
 -- What is shown behind the record of a version entry.
 use Rattle.std.proofs.Common.{◌≡◌, ℕ, Bool, sym, ◌∙◌, ap, subst}
-use Rattle.ctr_meta.specs.Tables.{Tables}
-use Rattle.ctr_redo.specs.States.{State}
-use Rattle.ctr_area.specs.Areas.{Area}
-use Rattle.ctr_area.specs.Images.{image_rows, versions_in}
-use Rattle.ctr_area.specs.Sound.{IsSoundArea}
-use Rattle.ctr_record_effects.specs.States.{area_in}
-use Rattle.ctr_record_effects.specs.Standing.{HasSoundArea, ShowsAlike}
+use Rattle.ctr_passed.specs.meta_Tables.{Tables}
+use Rattle.ctr_passed.specs.redo_States.{State}
+use Rattle.ctr_passed.specs.area_Areas.{Area}
+use Rattle.ctr_passed.specs.area_Images.{image_rows, versions_in}
+use Rattle.ctr_passed.specs.area_Sound.{IsSoundArea}
+use Rattle.ctr_passed.specs.record_effects_States.{area_in}
+use Rattle.ctr_passed.specs.record_effects_Standing.{HasSoundArea, ShowsAlike}
 
 -- a state whose pages are an area that is sound with as many pages and with these tables
 pub sound_by : (t : State) (counted : ℕ) (tables : Tables) (area : Area) → area_in t ≡ area → t.counted ≡ counted → t.tables ≡ tables → IsSoundArea counted tables area → HasSoundArea t

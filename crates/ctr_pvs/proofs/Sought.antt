@@ -4,7 +4,7 @@ use Rattle.std.specs.Prelude.{◌==◌, not, Option}
 use Rattle.std.proofs.lemmas.Bool.{eqb-true, eqb-false, eq-eqb, ne_eqb}
 use Rattle.ctr_types.specs.declared.value.Column.{Column}
 use Rattle.ctr_types.specs.declared.value.Kind.{Kind}
-use Rattle.ctr_versions.proofs.Keys.{known}
+use Rattle.ctr_passed.proofs.versions_Keys.{known}
 use Rattle.ctr_bytes.specs.Fields.{field}
 use Rattle.ctr_bytes.proofs.FieldLaws.{got_byte}
 use Rattle.ctr_rec.specs.Damage.{at_most}
@@ -16,10 +16,10 @@ use Rattle.ctr_page.specs.Damage.{kept_check, used_kept_check}
 use Rattle.ctr_page.specs.Searching.{IsFirst}
 use Rattle.ctr_page.proofs.Holding.{kinds_wide, most_ok}
 use Rattle.ctr_page.proofs.Searches.{ends_first}
-use Rattle.ctr_area.proofs.Bytes.{byte_in_piece}
-use Rattle.ctr_area.proofs.Written.{one_of_two}
-use Rattle.ctr_area.specs.Areas.{Older, free_older}
-use Rattle.ctr_area.specs.Reading.{version_said, older_said, header_on, columns_on, width_on, size_of_kind, area_of}
+use Rattle.ctr_passed.proofs.area_Bytes.{byte_in_piece}
+use Rattle.ctr_passed.proofs.area_Written.{one_of_two}
+use Rattle.ctr_passed.specs.area_Areas.{Older, free_older}
+use Rattle.ctr_passed.specs.area_Reading.{version_said, older_said, header_on, columns_on, width_on, size_of_kind, area_of}
 use Rattle.ctr_pvs.specs.Entries.{checks_version, is_free_version, EndsFree, is_free_older}
 
 -- a version entry that passes its check is used or free

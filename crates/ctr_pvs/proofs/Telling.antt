@@ -6,10 +6,10 @@ use Rattle.ctr_page.specs.declared.rows.Place.{Place}
 use Rattle.ctr_page.specs.Columns.{kinds_of, columns_in}
 use Rattle.ctr_page.specs.Searching.{IsFirst}
 use Rattle.ctr_page.specs.Walking.{most_in_chain}
-use Rattle.ctr_area.specs.Areas.{Area}
-use Rattle.ctr_area.specs.Reading.{entry_bytes, area_of}
-use Rattle.ctr_area.specs.Chains.{pages_bound}
-use Rattle.ctr_area.specs.Sound.{IsOfVersions, AreReadable}
+use Rattle.ctr_passed.specs.area_Areas.{Area}
+use Rattle.ctr_passed.specs.area_Reading.{entry_bytes, area_of}
+use Rattle.ctr_passed.specs.area_Chains.{pages_bound}
+use Rattle.ctr_passed.specs.area_Sound.{IsOfVersions, AreReadable}
 use Rattle.ctr_walk.specs.Along.{ChainSought, EndsAlong}
 use Rattle.ctr_walk.specs.Tables.{chain_sought}
 use Rattle.ctr_walk.proofs.Telling.{not_used, not_free, place_found, no_place}

@@ -1,7 +1,7 @@
 -- What the checks of a page and of its table say, where they pass.
 use Rattle.std.proofs.Common.{◌≡◌, ℕ, ◌+◌, ◌-◌, ◌/◌, ◌%◌, ◌<◌, ◌≤◌, cond, List, drop, length, Result, Ok, Err, refl, sym, ◌∙◌, ap, subst, arith}
 use Rattle.std.specs.Prelude.{nat_lt, nat_le, true, ⊤}
-use Rattle.ctr_versions.proofs.Keys.{known}
+use Rattle.ctr_passed.proofs.versions_Keys.{known}
 use Rattle.std.proofs.Math.Nat.{le-div_iff_mul-le}
 use Rattle.std.proofs.lemmas.Bool.{ltb-false, le-ltb, leb-true}
 use Rattle.ctr_types.specs.declared.value.Kind.{Kind}
@@ -21,10 +21,10 @@ use Rattle.ctr_page.specs.Columns.{kinds_of, kinds_width, columns_in, slot_start
 use Rattle.ctr_page.specs.Damage.{header_check, slot_check, kept_check}
 use Rattle.ctr_page.proofs.Holding.{kinds_wide, most_ok}
 use Rattle.ctr_page.proofs.Searches.{lies_on_page}
-use Rattle.ctr_area.specs.Reading.{no_header, entry_bytes, header_on, columns_on, width_on, size_on, area_of}
-use Rattle.ctr_area.specs.Checked.{kinds_at}
-use Rattle.ctr_area.specs.Changes.{IsPlaceOf}
-use Rattle.ctr_area.proofs.Written.{one_of_two}
+use Rattle.ctr_passed.specs.area_Reading.{no_header, entry_bytes, header_on, columns_on, width_on, size_on, area_of}
+use Rattle.ctr_passed.specs.area_Checked.{kinds_at}
+use Rattle.ctr_passed.specs.area_Changes.{IsPlaceOf}
+use Rattle.ctr_passed.proofs.area_Written.{one_of_two}
 use Rattle.ctr_walk.proofs.Said.{bytes_of_entry}
 use Rattle.ctr_walk.specs.declared.table.TableOf.{TableOf}
 use Rattle.ctr_pvs.specs.Table.{there_check, owner_check, catalog_check, told_of, owner_of, table_check, KindsSaid, OwnerSaid, TableSaid}

@@ -7,7 +7,7 @@ use Rattle.ctr_page.specs.Reading.{older_at}
 use Rattle.ctr_page.specs.Columns.{kinds_width, kept_start}
 use Rattle.ctr_page.specs.Damage.{kept_check}
 use Rattle.ctr_page.specs.Searching.{EndsSearch}
-use Rattle.ctr_area.specs.Areas.{Area}
+use Rattle.ctr_passed.specs.area_Areas.{Area}
 
 -- what is wrong with a version entry, by its number on a page
 abbrev pub checks_version : List Kind → ℕ → List ℕ → ℕ → Result ⊤ BadRecord

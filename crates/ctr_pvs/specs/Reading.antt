@@ -15,8 +15,8 @@ use Rattle.ctr_page.specs.Places.{slot_size, kept_size, room_for}
 use Rattle.ctr_page.specs.Reading.{slot_at, older_at}
 use Rattle.ctr_page.specs.Columns.{kinds_width, slot_start, kept_start}
 use Rattle.ctr_page.specs.Damage.{header_check, slot_check, kept_check}
-use Rattle.ctr_area.specs.Reading.{header_on, width_on, area_of}
-use Rattle.ctr_area.specs.Checked.{kinds_at}
+use Rattle.ctr_passed.specs.area_Reading.{header_on, width_on, area_of}
+use Rattle.ctr_passed.specs.area_Checked.{kinds_at}
 use Rattle.ctr_walk.specs.declared.table.TableOf.{TableOf}
 use Rattle.ctr_walk.specs.Tables.{kinds_said}
 use Rattle.ctr_pvs.specs.Table.{there_check, told_of, owner_of, table_check}

@@ -1,13 +1,13 @@
 -- What the record of a version entry owes to the chains of versions, and what is shown behind it.
 use Rattle.std.specs.Prelude.{◌≡◌, ℕ}
-use Rattle.ctr_redo.specs.States.{State}
+use Rattle.ctr_passed.specs.redo_States.{State}
 use Rattle.ctr_page.specs.declared.rows.Place.{Place}
 use Rattle.ctr_page.specs.declared.rows.VersionEntry.{VersionEntry}
-use Rattle.ctr_area.specs.Areas.{RowVersion, Slot, Older}
-use Rattle.ctr_area.specs.Reading.{older_said, columns_on}
-use Rattle.ctr_record_laws.specs.Owed.{OwedByKeep, older_copy, IsSpareCopy}
-use Rattle.ctr_record_effects.specs.States.{pages_in, area_in}
-use Rattle.ctr_record_effects.specs.Standing.{HasSoundArea, ShowsAlike}
+use Rattle.ctr_passed.specs.area_Areas.{RowVersion, Slot, Older}
+use Rattle.ctr_passed.specs.area_Reading.{older_said, columns_on}
+use Rattle.ctr_passed.specs.record_laws_Owed.{OwedByKeep, older_copy, IsSpareCopy}
+use Rattle.ctr_passed.specs.record_effects_States.{pages_in, area_in}
+use Rattle.ctr_passed.specs.record_effects_Standing.{HasSoundArea, ShowsAlike}
 use Rattle.ctr_pvs.specs.Writing.{HasPlaceOfVersion}
 
 -- a version entry by the columns of the page that it is laid on

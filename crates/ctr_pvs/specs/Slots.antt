@@ -12,13 +12,13 @@ use Rattle.ctr_page.specs.declared.walk.BadChain.{BadChain}
 use Rattle.ctr_page.specs.declared.table.TheConstants.{PAGE_SIZE}
 use Rattle.ctr_page.specs.Places.{slot_size, start_of}
 use Rattle.ctr_page.specs.Columns.{kinds_width}
-use Rattle.ctr_area.specs.Reading.{slot_said, header_on, columns_on, width_on, area_of}
-use Rattle.ctr_base.specs.Base.{IsSoundImage}
-use Rattle.ctr_store.specs.Store.{View}
+use Rattle.ctr_passed.specs.area_Reading.{slot_said, header_on, columns_on, width_on, area_of}
+use Rattle.ctr_walk.specs.base_Base.{IsSoundImage}
+use Rattle.ctr_walk.specs.store_Store.{View}
 use Rattle.ctr_walk.specs.Damage.{damage_told, EndsTold, ReadsPages}
 use Rattle.ctr_walk.specs.declared.table.TableOf.{TableOf}
 use Rattle.ctr_walk.specs.Tables.{kinds_said}
-use Rattle.ctr_record_effects.specs.States.{pages_in}
+use Rattle.ctr_passed.specs.record_effects_States.{pages_in}
 use Rattle.ctr_pvs.specs.declared.slot.LentPart.{LentPart}
 use Rattle.ctr_pvs.specs.declared.slot.LentSlot.{LentSlot}
 use Rattle.ctr_pvs.specs.Reading.{row_on_check, row_check_at}

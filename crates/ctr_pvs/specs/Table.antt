@@ -10,8 +10,8 @@ use Rattle.ctr_page.specs.declared.walk.BadChain.TheVariants.{OnPage}
 use Rattle.ctr_page.specs.declared.table.TheConstants.{ENTRY_SIZE, KIND_AT, OWNER_AT}
 use Rattle.ctr_page.specs.Columns.{entry_at, columns_in, kinds_of}
 use Rattle.ctr_page.specs.Damage.{entry_check}
-use Rattle.ctr_area.specs.Reading.{area_of}
-use Rattle.ctr_area.specs.Checked.{kinds_at}
+use Rattle.ctr_passed.specs.area_Reading.{area_of}
+use Rattle.ctr_passed.specs.area_Checked.{kinds_at}
 use Rattle.ctr_walk.specs.declared.table.TableOf.{TableOf}
 
 -- ---- checks, in the order in which they are told

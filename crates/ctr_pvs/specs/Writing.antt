@@ -13,16 +13,16 @@ use Rattle.ctr_page.specs.declared.table.TheConstants.{PAGE_SIZE}
 use Rattle.ctr_page.specs.Places.{kept_size, start_of}
 use Rattle.ctr_page.specs.Columns.{kinds_width}
 use Rattle.ctr_page.specs.Making.{kept_bytes, IsEntry}
-use Rattle.ctr_area.specs.Areas.{nowhere}
-use Rattle.ctr_area.specs.Reading.{width_on, area_of}
-use Rattle.ctr_area.specs.Checked.{kinds_at}
-use Rattle.ctr_area.specs.Changes.{IsPlaceOf}
-use Rattle.ctr_base.specs.Base.{IsSoundImage}
-use Rattle.ctr_store.specs.Store.{View}
+use Rattle.ctr_passed.specs.area_Areas.{nowhere}
+use Rattle.ctr_passed.specs.area_Reading.{width_on, area_of}
+use Rattle.ctr_passed.specs.area_Checked.{kinds_at}
+use Rattle.ctr_passed.specs.area_Changes.{IsPlaceOf}
+use Rattle.ctr_walk.specs.base_Base.{IsSoundImage}
+use Rattle.ctr_walk.specs.store_Store.{View}
 use Rattle.ctr_walk.specs.OneRecord.{LogsOne}
 use Rattle.ctr_walk.specs.Damage.{ReadsPages}
-use Rattle.ctr_record_effects.specs.States.{pages_in}
-use Rattle.ctr_record_effects.specs.Changing.{laid_on_place}
+use Rattle.ctr_passed.specs.record_effects_States.{pages_in}
+use Rattle.ctr_walk.specs.record_effects_Changing.{laid_on_place}
 use Rattle.ctr_pvs.specs.Table.{told_of, owner_of, table_check}
 use Rattle.ctr_pvs.specs.Reading.{lies_check}
 

@@ -1,37 +1,35 @@
 // A version entry by its place, lent from its page.
 ghost use Rattle.std.specs.Prelude.{◌≡◌, ◌≤◌, ◌<◌, ◌+◌, false, List, IfOk, length};
 ghost use Rattle.ctr_types.specs.declared.value.Column.{Column};
-ghost use Rattle.ctr_value.specs.Payload.{IsKeyed};
+ghost use Rattle.ctr_page.specs.ctr_value.Payload.{IsKeyed};
 ghost use Rattle.std.specs.Borrow.{sem};
 ghost use Rattle.std.specs.Io.BufRead.{Rests};
-ghost use Rattle.ctr_base.specs.declared.growing.TheConstants.{MOST_PAGES};
-ghost use Rattle.ctr_base.specs.Base.{WhereSound};
-ghost use Rattle.ctr_store.specs.Store.{LeavesPage};
-ghost use Rattle.ctr_store.specs.contracts.store.Store.{the_row as store-row};
+ghost use Rattle.ctr_walk.specs.base_growing_TheConstants.{MOST_PAGES};
+ghost use Rattle.ctr_walk.specs.base_Base.{WhereSound};
+ghost use Rattle.ctr_walk.specs.store_Store.{LeavesPage};
+ghost use Rattle.ctr_walk.specs.store_contracts_store_Store.{the_row as store-row};
 ghost use Rattle.ctr_page.specs.declared.table.TheConstants.{PAGE_SIZE};
 ghost use Rattle.ctr_page.specs.Places.{kept_size as size_of_kept, start_of as start_place};
 ghost use Rattle.ctr_page.specs.Reading.{older_at};
 ghost use Rattle.ctr_page.specs.Making.{IsEntry};
 ghost use Rattle.ctr_page.specs.Columns.{kinds_of};
-ghost use Rattle.ctr_area.specs.Reading.{columns_on};
+ghost use Rattle.ctr_passed.specs.area_Reading.{columns_on};
 ghost use Rattle.ctr_passed.specs.Logged.{IsOlderOf};
 ghost use Rattle.ctr_walk.specs.Tables.{kinds_said};
-ghost use Rattle.ctr_record_effects.specs.States.{pages_in};
+ghost use Rattle.ctr_passed.specs.record_effects_States.{pages_in};
 ghost use Rattle.ctr_walk.specs.Damage.{searched, EndsOnPage};
 ghost use Rattle.ctr_pvs.specs.Reading.{WidthSaid, version_check_at, EndsAt};
 ghost use Rattle.ctr_pvs.specs.Lending.{entry_lent, VersionLiesAt, IsKeptAt, LendsVersion};
 
 use crate::reading::version_in;
 use crate::table::table_on;
-use ctr_base::Origin;
 use ctr_disk::{Disk, StoreFault};
 use ctr_page::{
     BadPage, PageKind, Place, Tombstone, Use, Version, VersionEntry, kinds_width, read_version,
 };
 use ctr_rec::Bytes;
-use ctr_store::Store;
 use ctr_types::Xid;
-use ctr_walk::{SearchFault, TableOf, found_on, tell};
+use ctr_walk::{Origin, SearchFault, Store, TableOf, found_on, tell};
 
 /// A version entry as it is kept, with its payload lent from its page.
 #[derive(Clone, Copy, Debug)]

@@ -1,7 +1,7 @@
 // Version entries, checked as they are read.
 ghost use Rattle.std.specs.Prelude.{◌≡◌, ◌≤◌, ◌<◌, List, IfOk, length};
 ghost use Rattle.ctr_types.specs.declared.value.Column.{Column};
-ghost use Rattle.ctr_value.specs.Payload.{IsKeyed};
+ghost use Rattle.ctr_page.specs.ctr_value.Payload.{IsKeyed};
 ghost use Rattle.ctr_page.specs.declared.table.TheConstants.{PAGE_SIZE};
 ghost use Rattle.ctr_page.specs.Columns.{kinds_of, kinds_width as width_of_kinds};
 ghost use Rattle.ctr_passed.specs.Logged.{IsSlotOf, IsOlderOf};

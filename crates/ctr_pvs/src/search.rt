@@ -1,17 +1,15 @@
 // A free version entry of a table, along the chain of its version pages.
 ghost use Rattle.std.specs.Prelude.{◌≡◌, ◌<◌, false, IfOk, IfSome};
-ghost use Rattle.ctr_base.specs.Base.{WhereSound};
-ghost use Rattle.ctr_area.specs.Sound.{AreReadable};
+ghost use Rattle.ctr_walk.specs.base_Base.{WhereSound};
+ghost use Rattle.ctr_passed.specs.area_Sound.{AreReadable};
 ghost use Rattle.ctr_walk.specs.Damage.{damage_told, EndsTold, ReadsPages};
-ghost use Rattle.ctr_record_effects.specs.States.{pages_in, area_in};
+ghost use Rattle.ctr_passed.specs.record_effects_States.{pages_in, area_in};
 ghost use Rattle.ctr_pvs.specs.Along.{EndsVersions, FindsFreeEntry, entries_on_page};
 
 use crate::entries::FreeEntry;
-use ctr_base::Origin;
 use ctr_disk::{Disk, StoreFault};
 use ctr_page::{Chain, Place};
-use ctr_store::Store;
-use ctr_walk::search_chain;
+use ctr_walk::{Origin, Store, search_chain};
 
 /// A version entry of a table that isn't used, by the table's entry of the catalog: the search goes along the chain of its version pages,
 /// and checks the entry, and each page as it is read. It logs nothing, and takes no memory.

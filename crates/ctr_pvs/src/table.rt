@@ -1,22 +1,20 @@
 // The table that a page is of.
 ghost use Rattle.std.specs.Prelude.{◌≡◌, ◌≤◌, ◌<◌, ◌+◌, ◌*◌, ◌/◌, ◌%◌, false, IfOk, length};
-ghost use Rattle.ctr_base.specs.declared.growing.TheConstants.{MOST_PAGES};
-ghost use Rattle.ctr_base.specs.Base.{WhereSound};
-ghost use Rattle.ctr_store.specs.Store.{LeavesPage};
+ghost use Rattle.ctr_walk.specs.base_growing_TheConstants.{MOST_PAGES};
+ghost use Rattle.ctr_walk.specs.base_Base.{WhereSound};
+ghost use Rattle.ctr_walk.specs.store_Store.{LeavesPage};
 ghost use Rattle.ctr_page.specs.declared.table.TheConstants.{PAGE_SIZE};
-ghost use Rattle.ctr_value.specs.Columns.{ColumnsFit};
+ghost use Rattle.ctr_page.specs.ctr_value.Columns.{ColumnsFit};
 ghost use Rattle.ctr_page.specs.Columns.{entry_at as entry_of, columns_in};
-ghost use Rattle.ctr_area.specs.Reading.{columns_on};
-ghost use Rattle.ctr_record_effects.specs.States.{pages_in, area_in};
+ghost use Rattle.ctr_passed.specs.area_Reading.{columns_on};
+ghost use Rattle.ctr_passed.specs.record_effects_States.{pages_in, area_in};
 ghost use Rattle.ctr_walk.specs.Damage.{searched, EndsOnPage};
 ghost use Rattle.ctr_pvs.specs.Table.{there_check, KindsSaid, OwnerSaid, TableFits, TableSaid};
 
-use ctr_base::Origin;
 use ctr_disk::Disk;
 use ctr_page::{BadPage, EntryState, PageKind, check_entry, read_entry, read_header};
 use ctr_rec::{BadRecord, PageNo, at_most, expect};
-use ctr_store::Store;
-use ctr_walk::{SearchFault, TableOf, an_entry_has_columns, catalog_page, found_on};
+use ctr_walk::{Origin, SearchFault, Store, TableOf, an_entry_has_columns, catalog_page, found_on};
 
 /// The bytes of an entry of the catalog.
 const ENTRY: u64 = 256;

@@ -1,41 +1,40 @@
 // One record lays a version entry, or frees one.
 ghost use Rattle.std.specs.Prelude.{◌≡◌, ◌≤◌, ◌<◌, ◌+◌, ℕ, false, OnOk, IfOk, length, take};
-ghost use Rattle.ctr_redo.specs.States.{page_at};
+ghost use Rattle.ctr_passed.specs.redo_States.{page_at};
 ghost use Rattle.ctr_page.specs.Making.{kept_bytes};
-ghost use Rattle.ctr_base.specs.Base.{WhereSound};
+ghost use Rattle.ctr_walk.specs.base_Base.{WhereSound};
 ghost use Rattle.ctr_page.specs.declared.table.TheConstants.{PAGE_SIZE};
 ghost use Rattle.ctr_page.specs.Places.{kept_size as size_of_kept, start_of as start_place};
-ghost use Rattle.ctr_area.specs.Areas.{free_older};
-ghost use Rattle.ctr_area.specs.Reading.{width_on};
-ghost use Rattle.ctr_area.specs.Changes.{with_older, IsPlaceOf};
+ghost use Rattle.ctr_passed.specs.area_Areas.{free_older};
+ghost use Rattle.ctr_passed.specs.area_Reading.{width_on};
+ghost use Rattle.ctr_passed.specs.area_Changes.{with_older, IsPlaceOf};
 ghost use Rattle.ctr_walk.specs.OneRecord.{HasRoomForOne, LogsOne};
 ghost use Rattle.ctr_walk.specs.Damage.{damage_told, searched, EndsTold};
-ghost use Rattle.ctr_store.specs.Store.{LeavesPage};
-ghost use Rattle.ctr_record_effects.specs.States.{pages_in, area_in, IsWholePage};
+ghost use Rattle.ctr_walk.specs.store_Store.{LeavesPage};
+ghost use Rattle.ctr_passed.specs.record_effects_States.{pages_in, area_in, IsWholePage};
 ghost use Rattle.ctr_pvs.specs.Reading.{EndsAt};
-ghost use Rattle.ctr_record_laws.specs.Owed.{IsInNoChain};
-ghost use Rattle.ctr_record_effects.specs.Standing.{HasSoundArea, ShowsAlike};
-ghost use Rattle.ctr_actions.specs.Sites.{site_of};
-ghost use Rattle.ctr_actions.specs.Actions.{Keeps, FreesOlder, site_after};
+ghost use Rattle.ctr_passed.specs.record_laws_Owed.{IsInNoChain};
+ghost use Rattle.ctr_passed.specs.record_effects_Standing.{HasSoundArea, ShowsAlike};
+ghost use Rattle.ctr_passed.specs.actions_Sites.{site_of};
+ghost use Rattle.ctr_passed.specs.actions_Actions.{Keeps, FreesOlder, site_after};
 ghost use Rattle.ctr_pvs.specs.Showing.{older_laid, MayKeep, KeepsVersion};
 ghost use Rattle.ctr_pvs.specs.Writing.{EntryLies, keep_record, HasPlaceOfVersion, blank_entry, blank_record, drop_check, DropsEntry};
 
 use crate::reading::check_lies;
 use crate::table::table_on;
-use ctr_actions::a_logged_record_is_its_action;
-use ctr_base::Origin;
 use ctr_disk::{Disk, StoreFault};
 use ctr_page::{
     PageKind, Place, Tombstone, Use, Version, VersionEntry, kept_size, kinds_width, make_version,
 };
-use ctr_rec::{Bytes, Record};
-use ctr_record_effects::{a_version_is_laid, over_place};
-use ctr_record_laws::{
+use ctr_passed::{
     a_free_entry_shows_the_same, a_keep_shows_the_same, a_kept_version_is_spare,
+    a_logged_record_is_its_action,
 };
-use ctr_store::Store;
+use ctr_rec::{Bytes, Record};
 use ctr_types::Xid;
-use ctr_walk::{SearchFault, found_on, log_on_page, tell};
+use ctr_walk::{
+    Origin, SearchFault, Store, a_version_is_laid, found_on, log_on_page, over_place, tell,
+};
 
 /// The most bytes of a version entry.
 const ENTRY_MOST: usize = 2_072;

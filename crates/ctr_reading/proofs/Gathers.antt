@@ -13,9 +13,9 @@ use Rattle.ctr_area.specs.Areas.{Area, no_pages}
 use Rattle.ctr_area.specs.Chains.{pages_from, places_on, places_from}
 use Rattle.ctr_area.specs.Reading.{area_of, bucket_numbers, entry_bytes}
 use Rattle.ctr_record_laws.proofs.Ends.{page_goes_on, page_ends}
-use Rattle.ctr_chain.specs.Visible.{visible_row}
-use Rattle.ctr_chain.specs.declared.view.ReadRefusal.{ReadRefusal}
-use Rattle.ctr_chain.specs.declared.view.ReadRefusal.TheVariants as refusal
+use Rattle.ctr_views.specs.chain_Visible.{visible_row}
+use Rattle.ctr_views.specs.chain_ReadRefusal.{ReadRefusal}
+use Rattle.ctr_views.specs.chain_ReadRefusal.TheVariants as refusal
 use Rattle.ctr_views.specs.Scanning.{with_seen}
 use Rattle.ctr_reading.specs.Reading.{as_told}
 use Rattle.ctr_reading.specs.Gathering.{gathered_at, gathered, Gathers}

@@ -5,3 +5,8 @@ pub mod Scans
 pub mod Places
 pub mod Walked
 pub mod Viewed
+pub use Rattle.ctr_undamaged.proofs.There as undamaged_There
+pub use Rattle.ctr_undamaged.proofs.heap_Made as heap_Made
+pub use Rattle.ctr_walk.proofs.Damages as walk_Damages
+pub use Rattle.ctr_walk.proofs.Joins as walk_Joins
+pub use Rattle.ctr_views.proofs.Scanning as views_Scanning

@@ -30,28 +30,28 @@ use Rattle.ctr_record_laws.specs.Bounds.{IsInBounds}
 use Rattle.ctr_record_laws.proofs.Bounds.{pages_bounded}
 use Rattle.ctr_record_laws.proofs.Ends.{bucket_chain, one_among, page_ends}
 use Rattle.ctr_record_laws.proofs.Members.{among_front}
-use Rattle.ctr_record_effects.specs.States.{pages_in, area_in}
-use Rattle.ctr_record_effects.specs.Standing.{IsDatabaseState}
-use Rattle.ctr_passed.proofs.Pagewise.{page_by_page}
+use Rattle.ctr_walk.specs.record_effects_States.{pages_in, area_in}
+use Rattle.ctr_walk.specs.record_effects_Standing.{IsDatabaseState}
+use Rattle.ctr_views.proofs.passed_Pagewise.{page_by_page}
 use Rattle.ctr_walk.specs.declared.table.TableOf.{TableOf}
 use Rattle.ctr_walk.specs.Damage.{EndsOnPage, EndsTold}
 use Rattle.ctr_walk.specs.Tables.{kinds_said, first_of_chain, EndsFirst}
-use Rattle.ctr_heap.specs.declared.slots.SlotSought.{SlotSought}
-use Rattle.ctr_heap.specs.declared.slots.SlotSought.TheVariants.{Free}
-use Rattle.ctr_heap.specs.Finding.{EndsBucket}
+use Rattle.ctr_undamaged.specs.heap_SlotSought.{SlotSought}
+use Rattle.ctr_undamaged.specs.heap_SlotSought.TheVariants.{Free}
+use Rattle.ctr_undamaged.specs.heap_Finding.{EndsBucket}
 use Rattle.ctr_undamaged.specs.Undamaged.{MeetsNoDamage}
-use Rattle.ctr_pvs.specs.Table.{table_check, TableSaid}
-use Rattle.ctr_pvs.specs.Reading.{row_on_check, row_check_at}
-use Rattle.ctr_pvs.proofs.Told.{header_here, page_of_table, by_table}
+use Rattle.ctr_views.specs.pvs_Table.{table_check, TableSaid}
+use Rattle.ctr_views.specs.pvs_Reading.{row_on_check, row_check_at}
+use Rattle.ctr_views.proofs.pvs_Told.{header_here, page_of_table, by_table}
 use Rattle.ctr_undamaged.proofs.Inside.{table_inside, on_bucket, few_on_bucket}
 use Rattle.ctr_undamaged.proofs.There.{row_passes, table_passes}
 use Rattle.ctr_types.specs.declared.value.Row.{Row}
 use Rattle.std.specs.Ordering.{int_cmp}
 use Rattle.std.specs.FinMap.Entries.{put}
-use Rattle.ctr_chain.specs.Rows.{GivesRow}
-use Rattle.ctr_chain.specs.Visible.{as_read, visible_row}
-use Rattle.ctr_chain.specs.declared.view.ReadRefusal.{ReadRefusal}
-use Rattle.ctr_chain.specs.declared.view.ReadRefusal.TheVariants as refusal
+use Rattle.ctr_views.specs.chain_Rows.{GivesRow}
+use Rattle.ctr_views.specs.chain_Visible.{as_read, visible_row}
+use Rattle.ctr_views.specs.chain_ReadRefusal.{ReadRefusal}
+use Rattle.ctr_views.specs.chain_ReadRefusal.TheVariants as refusal
 use Rattle.ctr_views.specs.Scanning.{with_seen}
 use Rattle.ctr_reading.specs.declared.pages.PageSlots.{PageSlots}
 use Rattle.ctr_reading.specs.Reading.{as_told}

@@ -14,10 +14,10 @@ use Rattle.ctr_area.specs.Areas.{Area}
 use Rattle.ctr_area.specs.Chains.{slot_places}
 use Rattle.ctr_area.specs.Sound.{AreKeyed, IsAmong}
 use Rattle.ctr_record_laws.proofs.Gathering.{matches, match_key, match_used, is_match}
-use Rattle.ctr_chain.specs.Visible.{visible_row}
+use Rattle.ctr_views.specs.chain_Visible.{visible_row}
 use Rattle.ctr_views.specs.Scanning.{AreScanned, with_seen}
-use Rattle.ctr_chain.specs.declared.view.ReadRefusal.{ReadRefusal}
-use Rattle.ctr_chain.specs.declared.view.ReadRefusal.TheVariants as refusal
+use Rattle.ctr_views.specs.chain_ReadRefusal.{ReadRefusal}
+use Rattle.ctr_views.specs.chain_ReadRefusal.TheVariants as refusal
 use Rattle.ctr_reading.specs.Reading.{as_told, GivesRows, GivesShown}
 use Rattle.ctr_reading.specs.Gathering.{gathered_at, gathered, Gathers}
 

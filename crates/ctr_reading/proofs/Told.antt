@@ -7,7 +7,7 @@ use Rattle.ctr_disk.specs.declared.disk.Disk.{Ghosts}
 use Rattle.ctr_disk.specs.Image.{Image}
 use Rattle.ctr_disk.specs.declared.fault.StoreFault.{StoreFault}
 use Rattle.ctr_disk.specs.declared.fault.StoreFault.TheVariants.{Fault, Damaged}
-use Rattle.ctr_store.specs.Store.{View, LeavesPage}
+use Rattle.ctr_walk.specs.store_Store.{View, LeavesPage}
 use Rattle.ctr_walk.specs.Damage.{EndsTold, ReadsPages}
 use Rattle.ctr_walk.proofs.Joins.{answers_ok, pages_join}
 use Rattle.ctr_walk.proofs.Damages.{reads_err}
@@ -16,12 +16,12 @@ use Rattle.ctr_page.specs.declared.rows.Place.{Place}
 use Rattle.ctr_page.specs.declared.walk.BadChain.{BadChain}
 use Rattle.ctr_page.specs.Places.{bucket_of}
 use Rattle.ctr_area.specs.Areas.{Area}
-use Rattle.ctr_heap.specs.declared.slots.SlotSought.{SlotSought}
-use Rattle.ctr_heap.specs.declared.slots.SlotSought.TheVariants.{Key}
-use Rattle.ctr_heap.specs.Finding.{EndsBucket, FindsKey}
-use Rattle.ctr_chain.specs.Visible.{as_read}
-use Rattle.ctr_chain.specs.declared.view.ReadRefusal.{ReadRefusal}
-use Rattle.ctr_chain.specs.declared.view.ReadRefusal.TheVariants as refusal
+use Rattle.ctr_undamaged.specs.heap_SlotSought.{SlotSought}
+use Rattle.ctr_undamaged.specs.heap_SlotSought.TheVariants.{Key}
+use Rattle.ctr_undamaged.specs.heap_Finding.{EndsBucket, FindsKey}
+use Rattle.ctr_views.specs.chain_Visible.{as_read}
+use Rattle.ctr_views.specs.chain_ReadRefusal.{ReadRefusal}
+use Rattle.ctr_views.specs.chain_ReadRefusal.TheVariants as refusal
 use Rattle.ctr_undamaged.specs.Undamaged.{MeetsNoDamage}
 use Rattle.ctr_reading.specs.Reading.{as_told, IsDiskOrMemory}
 

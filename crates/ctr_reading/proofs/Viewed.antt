@@ -10,7 +10,7 @@ use Rattle.ctr_model.specs.Reply.{rows_found}
 use Rattle.ctr_area.specs.Areas.{Area}
 use Rattle.ctr_page.specs.declared.rows.Place.{Place}
 use Rattle.ctr_area.specs.Sound.{IsUsedSlot}
-use Rattle.ctr_chain.specs.Visible.{visible_row}
+use Rattle.ctr_views.specs.chain_Visible.{visible_row}
 use Rattle.ctr_views.specs.Scanning.{AreScanned, IsNoSlot}
 use Rattle.ctr_reading.specs.Reading.{IsSeen, AreShown}
 

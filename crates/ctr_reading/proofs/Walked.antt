@@ -9,12 +9,12 @@ use Rattle.ctr_area.specs.Chains.{pages_bound, pages_from, places_from}
 use Rattle.ctr_area.specs.Sound.{IsAmong}
 use Rattle.ctr_record_laws.proofs.Ends.{page_goes_on}
 use Rattle.ctr_record_laws.proofs.Members.{among_rest}
-use Rattle.ctr_record_effects.specs.States.{area_in}
+use Rattle.ctr_walk.specs.record_effects_States.{area_in}
 use Rattle.ctr_reading.specs.Gathering.{gathered, Gathers, IsBucketPage, IsBucket}
 use Rattle.ctr_reading.proofs.Gathers.{refused_further, on_page, pages_places, page_step, pages_end}
 use Rattle.ctr_reading.proofs.Places.{few_pages}
 use Rattle.std.specs.Prelude.{IfOk}
-use Rattle.ctr_chain.specs.declared.view.ReadRefusal.{ReadRefusal}
+use Rattle.ctr_views.specs.chain_ReadRefusal.{ReadRefusal}
 use Rattle.ctr_reading.specs.Reading.{as_told}
 
 -- a chain has fewer pages than steps

@@ -14,13 +14,13 @@ use Rattle.ctr_redo.specs.States.{State}
 use Rattle.ctr_area.specs.Areas.{Slot, Area}
 use Rattle.ctr_area.specs.Chains.{pages_bound, pages_from, places_from}
 use Rattle.ctr_area.specs.Sound.{IsAmong}
-use Rattle.ctr_record_effects.specs.States.{pages_in, area_in}
-use Rattle.ctr_record_effects.specs.Standing.{IsDatabaseState}
+use Rattle.ctr_walk.specs.record_effects_States.{pages_in, area_in}
+use Rattle.ctr_walk.specs.record_effects_Standing.{IsDatabaseState}
 use Rattle.ctr_walk.specs.declared.table.TableOf.{TableOf}
 use Rattle.ctr_walk.specs.Tables.{kinds_said, first_of_chain}
-use Rattle.ctr_pvs.specs.Table.{TableSaid}
-use Rattle.ctr_pvs.specs.Reading.{row_on_check}
-use Rattle.ctr_chain.specs.Visible.{visible_row}
+use Rattle.ctr_views.specs.pvs_Table.{TableSaid}
+use Rattle.ctr_views.specs.pvs_Reading.{row_on_check}
+use Rattle.ctr_views.specs.chain_Visible.{visible_row}
 use Rattle.ctr_views.specs.Scanning.{with_seen}
 use Rattle.ctr_reading.specs.declared.pages.PageSlots.{PageSlots}
 

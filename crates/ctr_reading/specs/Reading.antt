@@ -11,10 +11,10 @@ use Rattle.ctr_meta.specs.Seen.{xid_is_seen}
 use Rattle.ctr_page.specs.declared.rows.Place.{Place}
 use Rattle.ctr_area.specs.Areas.{Area}
 use Rattle.ctr_area.specs.Sound.{IsUsedSlot}
-use Rattle.ctr_chain.specs.Rows.{GivesRow}
-use Rattle.ctr_chain.specs.Visible.{visible_row}
-use Rattle.ctr_chain.specs.declared.view.ReadRefusal.{ReadRefusal}
-use Rattle.ctr_chain.specs.declared.view.ReadRefusal.TheVariants as refusal
+use Rattle.ctr_views.specs.chain_Rows.{GivesRow}
+use Rattle.ctr_views.specs.chain_Visible.{visible_row}
+use Rattle.ctr_views.specs.chain_ReadRefusal.{ReadRefusal}
+use Rattle.ctr_views.specs.chain_ReadRefusal.TheVariants as refusal
 use Rattle.ctr_views.specs.Scanning.{AreScanned, IsNoSlot}
 use Rattle.ctr_reading.specs.declared.sight.Sight.{Sight}
 

@@ -1,10 +1,10 @@
 // The rows of the pages of a bucket, and of all buckets of a table.
 ghost use Rattle.std.specs.Prelude.{◌≡◌, ◌≢◌, ◌<◌, ⊤, Ok, false, IfErr, IfOk};
 ghost use Rattle.ctr_base.specs.Base.{WhereSound};
-ghost use Rattle.ctr_store.specs.Store.{View, LeavesPage};
+ghost use Rattle.ctr_walk.specs.store_Store.{View, LeavesPage};
 ghost use Rattle.ctr_area.specs.Chains.{places_on, places_from, slot_places};
-ghost use Rattle.ctr_record_effects.specs.States.{area_in};
-ghost use Rattle.ctr_record_effects.specs.Standing.{IsDatabaseState};
+ghost use Rattle.ctr_walk.specs.record_effects_States.{area_in};
+ghost use Rattle.ctr_walk.specs.record_effects_Standing.{IsDatabaseState};
 ghost use Rattle.ctr_walk.specs.Damage.{ReadsPages};
 ghost use Rattle.ctr_reading.specs.Reading.{as_told, sees, IsDiskOrMemory};
 ghost use Rattle.ctr_reading.specs.Gathering.{gathered, bucket_places, Gathers, IsBucketPage, IsBucket};
@@ -14,13 +14,12 @@ use crate::gathering::gather_slots;
 use crate::pages::{next_page, slots_on};
 use crate::sight::Sight;
 use ctr_base::Origin;
-use ctr_chain::ReadRefusal;
 use ctr_disk::Disk;
 use ctr_page::{BadChain, Chain};
 use ctr_rec::PageNo;
-use ctr_store::Store;
 use ctr_undamaged::a_bucket_search_meets_no_damage;
-use ctr_walk::{SearchFault, first_page, tell};
+use ctr_views::ReadRefusal;
+use ctr_walk::{SearchFault, Store, first_page, tell};
 use std::alloc::Global;
 
 /// The buckets of a table.

@@ -1,14 +1,14 @@
 // The rows of the slots of a page.
 ghost use Rattle.std.specs.Prelude.{◌≡◌, ◌≤◌, ◌<◌, ℕ, ⊤, false, Ok, IfErr, IfOk};
-ghost use Rattle.ctr_store.specs.Store.{View, LeavesPage};
+ghost use Rattle.ctr_walk.specs.store_Store.{View, LeavesPage};
 ghost use Rattle.ctr_base.specs.Base.{WhereSound};
 ghost use Rattle.ctr_area.specs.Chains.{slot_places, places_on};
 ghost use Rattle.ctr_area.specs.Sound.{IsAmong};
 ghost use Rattle.ctr_page.specs.declared.checks.Chain.{Chain as ChainOf};
-ghost use Rattle.ctr_record_effects.specs.States.{pages_in, area_in};
-ghost use Rattle.ctr_record_effects.specs.Standing.{IsDatabaseState};
+ghost use Rattle.ctr_walk.specs.record_effects_States.{pages_in, area_in};
+ghost use Rattle.ctr_walk.specs.record_effects_Standing.{IsDatabaseState};
 ghost use Rattle.ctr_walk.specs.Damage.{ReadsPages};
-ghost use Rattle.ctr_pvs.specs.Table.{TableSaid, TableFits};
+ghost use Rattle.ctr_views.specs.pvs_Table.{TableSaid, TableFits};
 ghost use Rattle.ctr_reading.specs.Reading.{as_told, sees, IsDiskOrMemory};
 ghost use Rattle.ctr_reading.specs.Gathering.{gathered_at, gathered, ArePageSlots, Gathers, IsBucketPage};
 
@@ -17,12 +17,11 @@ use crate::pages::PageSlots;
 use crate::sight::Sight;
 use crate::slots::key_at;
 use ctr_base::Origin;
-use ctr_chain::{ReadRefusal, visible};
 use ctr_disk::Disk;
 use ctr_page::Place;
-use ctr_store::Store;
 use ctr_undamaged::a_row_is_read_without_damage;
-use ctr_walk::TableOf;
+use ctr_views::{ReadRefusal, visible};
+use ctr_walk::{Store, TableOf};
 use std::alloc::Global;
 
 /// Gathers the row that is seen at a used slot of a table, where one is.

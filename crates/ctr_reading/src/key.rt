@@ -1,19 +1,18 @@
 // The row of one key of a table.
 ghost use Rattle.std.specs.Prelude.{◌≡◌, ◌<◌, false, IfErr, IfOk};
 ghost use Rattle.ctr_base.specs.Base.{WhereSound};
-ghost use Rattle.ctr_record_effects.specs.States.{area_in};
-ghost use Rattle.ctr_record_effects.specs.Standing.{HasSoundArea, IsDatabaseState};
+ghost use Rattle.ctr_walk.specs.record_effects_States.{area_in};
+ghost use Rattle.ctr_walk.specs.record_effects_Standing.{HasSoundArea, IsDatabaseState};
 ghost use Rattle.ctr_walk.specs.Damage.{ReadsPages};
 ghost use Rattle.ctr_reading.specs.Reading.{as_told, sees, GivesSeen, IsDiskOrMemory};
 
 use crate::sight::Sight;
 use ctr_base::Origin;
-use ctr_chain::{ReadRefusal, visible};
 use ctr_disk::Disk;
-use ctr_heap::find;
-use ctr_store::Store;
 use ctr_types::Row;
-use ctr_undamaged::{a_bucket_search_meets_no_damage, a_row_is_read_without_damage};
+use ctr_undamaged::{a_bucket_search_meets_no_damage, a_row_is_read_without_damage, find};
+use ctr_views::{ReadRefusal, visible};
+use ctr_walk::Store;
 use std::alloc::Global;
 
 /// The row of a key of a table that a session sees, by the table's entry of the catalog; none where it sees none. What is read on the

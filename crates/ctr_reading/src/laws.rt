@@ -8,9 +8,9 @@ ghost use Rattle.ctr_model.specs.Refusals.{row_of};
 ghost use Rattle.ctr_model.specs.Reply.{rows_found};
 ghost use Rattle.ctr_model.specs.State.{view};
 ghost use Rattle.ctr_legal.specs.Kept.{IsFirm};
-ghost use Rattle.ctr_names.specs.Search.{IsEntryFound};
-ghost use Rattle.ctr_actions.specs.Sites.{Site};
-ghost use Rattle.ctr_paged.specs.Shown.{Scene, IsShown};
+ghost use Rattle.ctr_views.specs.names_Search.{IsEntryFound};
+ghost use Rattle.ctr_views.specs.actions_Sites.{Site};
+ghost use Rattle.ctr_views.specs.paged_Shown.{Scene, IsShown};
 ghost use Rattle.ctr_views.specs.Viewing.{Viewer, sees_by};
 ghost use Rattle.ctr_reading.specs.Reading.{AreShown, IsSeen};
 

@@ -14,6 +14,11 @@ mod sight;
 mod slots;
 mod table;
 
+pub use ctr_undamaged::a_catalog_search_meets_no_damage;
+pub use ctr_views::{
+    ReadRefusal, SchemaRefusal, a_scan_gives_the_table, an_action_meets_its_needs, schema,
+};
+pub use ctr_walk::an_entry_has_columns;
 pub use key::row_of_key;
 pub use laws::rows_are_those_of_the_view;
 pub use sight::Sight;

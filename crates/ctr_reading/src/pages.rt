@@ -2,13 +2,13 @@
 ghost use Rattle.std.specs.Prelude.{◌≡◌, ◌≤◌, ◌<◌, ℕ, false, IfErr, IfOk, length};
 ghost use Rattle.ctr_base.specs.Base.{WhereSound};
 ghost use Rattle.ctr_disk.specs.declared.fault.StoreFault.TheVariants.{Fault};
-ghost use Rattle.ctr_store.specs.Store.{LeavesPage};
+ghost use Rattle.ctr_walk.specs.store_Store.{LeavesPage};
 ghost use Rattle.ctr_page.specs.declared.checks.Chain.{Chain as ChainOf};
 ghost use Rattle.ctr_page.specs.declared.table.TheConstants.{PAGE_SIZE};
 ghost use Rattle.ctr_base.specs.declared.growing.TheConstants.{MOST_PAGES};
-ghost use Rattle.ctr_record_effects.specs.States.{pages_in, area_in};
+ghost use Rattle.ctr_walk.specs.record_effects_States.{pages_in, area_in};
 ghost use Rattle.ctr_walk.specs.Damage.{searched, damage_told, EndsOnPage, EndsTold, ReadsPages};
-ghost use Rattle.ctr_pvs.specs.Table.{TableFits, TableSaid};
+ghost use Rattle.ctr_views.specs.pvs_Table.{TableFits, TableSaid};
 ghost use Rattle.ctr_reading.specs.Gathering.{NextSaid, ArePageSlots, IsBucketPage};
 
 use ctr_base::Origin;
@@ -16,10 +16,9 @@ use ctr_disk::{Disk, StoreFault};
 use ctr_page::{
     BadPage, Chain, PageKind, check_header, kinds_width, read_header, room_for, slot_size,
 };
-use ctr_pvs::table_on;
 use ctr_rec::PageNo;
-use ctr_store::Store;
-use ctr_walk::{SearchFault, TableOf, found_on, tell};
+use ctr_views::table_on;
+use ctr_walk::{SearchFault, Store, TableOf, found_on, tell};
 
 /// The page behind one of a chain, whose header is checked; 0 for none.
 fn next_in(chain: Chain, counted: u32, page: &[u8]) -> Result<PageNo, BadPage>

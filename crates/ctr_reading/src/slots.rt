@@ -3,23 +3,22 @@ ghost use Rattle.std.specs.Prelude.{◌≡◌, ◌≤◌, ◌<◌, ℕ, false, O
 ghost use Rattle.ctr_base.specs.declared.growing.TheConstants.{MOST_PAGES};
 ghost use Rattle.ctr_base.specs.Base.{WhereSound};
 ghost use Rattle.ctr_disk.specs.declared.fault.StoreFault.TheVariants.{Fault};
-ghost use Rattle.ctr_store.specs.Store.{LeavesPage};
+ghost use Rattle.ctr_walk.specs.store_Store.{LeavesPage};
 ghost use Rattle.ctr_page.specs.declared.table.TheConstants.{PAGE_SIZE};
 ghost use Rattle.ctr_area.specs.Chains.{slot_places};
 ghost use Rattle.ctr_area.specs.Sound.{IsAmong};
-ghost use Rattle.ctr_record_effects.specs.States.{pages_in, area_in};
-ghost use Rattle.ctr_record_effects.specs.Standing.{IsDatabaseState};
+ghost use Rattle.ctr_walk.specs.record_effects_States.{pages_in, area_in};
+ghost use Rattle.ctr_walk.specs.record_effects_Standing.{IsDatabaseState};
 ghost use Rattle.ctr_walk.specs.Damage.{searched, damage_told, EndsOnPage, EndsTold, ReadsPages};
-ghost use Rattle.ctr_pvs.specs.Table.{TableSaid};
+ghost use Rattle.ctr_views.specs.pvs_Table.{TableSaid};
 ghost use Rattle.ctr_reading.specs.Gathering.{key_of_slot, key_there, KeySaid};
 
 use ctr_base::Origin;
 use ctr_disk::{Disk, StoreFault};
 use ctr_model::Key;
 use ctr_page::{BadPage, Place, RowSlot, Use};
-use ctr_pvs::row_in;
-use ctr_store::Store;
-use ctr_walk::{SearchFault, TableOf, found_on, tell};
+use ctr_views::row_in;
+use ctr_walk::{SearchFault, Store, TableOf, found_on, tell};
 
 // The key that stands in a slot.
 fn key_of(number: &i64) -> Key

@@ -1,8 +1,8 @@
 // All rows of a table.
 ghost use Rattle.std.specs.Prelude.{◌≡◌, ◌<◌, false, Ok, IfErr, IfOk};
 ghost use Rattle.ctr_base.specs.Base.{WhereSound};
-ghost use Rattle.ctr_record_effects.specs.States.{area_in};
-ghost use Rattle.ctr_record_effects.specs.Standing.{HasSoundArea, IsDatabaseState};
+ghost use Rattle.ctr_walk.specs.record_effects_States.{area_in};
+ghost use Rattle.ctr_walk.specs.record_effects_Standing.{HasSoundArea, IsDatabaseState};
 ghost use Rattle.ctr_walk.specs.Damage.{ReadsPages};
 ghost use Rattle.ctr_reading.specs.Reading.{as_told, sees, GivesShown, IsDiskOrMemory};
 
@@ -10,10 +10,10 @@ use crate::chains::scan;
 use crate::gathered::Gathered;
 use crate::sight::Sight;
 use ctr_base::Origin;
-use ctr_chain::ReadRefusal;
 use ctr_disk::Disk;
-use ctr_store::Store;
 use ctr_types::{OutOfMemory, Rows};
+use ctr_views::ReadRefusal;
+use ctr_walk::Store;
 use std::alloc::Global;
 
 // What memory there was for, as a reading's answer.

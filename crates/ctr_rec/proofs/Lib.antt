@@ -7,3 +7,4 @@ pub mod ReadBack
 pub mod MemberLaws
 pub mod Found
 pub mod Listed
+pub use Rattle.ctr_bytes.proofs.FieldLaws as bytes_FieldLaws

@@ -1,8 +1,8 @@
 -- A record that lays a page's number in an entry of the catalog: one of the entry's chains begins with it.
 use Rattle.std.proofs.Common.{◌≡◌, ◌≢◌, ℕ, ◌+◌, ◌*◌, ◌/◌, ◌%◌, ◌^◌, ◌<◌, Some, ◌∙◌, ap, arith}
-use Rattle.ctr_bytes.specs.Fields.{spelled}
-use Rattle.ctr_rec.specs.declared.record.Record.{Record}
-use Rattle.ctr_page.specs.Readable.{PartsHaveRoom}
+use Rattle.ctr_area.specs.ctr_bytes.Fields.{spelled}
+use Rattle.ctr_redo.specs.rec_Record.{Record}
+use Rattle.ctr_area.specs.ctr_page.Readable.{PartsHaveRoom}
 use Rattle.ctr_redo.specs.Overlaid.{overlay_of}
 use Rattle.ctr_redo.specs.States.{State, step}
 use Rattle.ctr_area.specs.Reading.{entry_bytes, area_of}

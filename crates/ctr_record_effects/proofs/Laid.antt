@@ -2,12 +2,12 @@
 use Rattle.std.proofs.Common.{◌≡◌, ⊎_elim, ℕ, zero, suc, ◌+◌, ◌==◌, ◌<◌, ◌≤◌, cond, List, [], ◌∷◌, ◌++◌, length, take, drop, replicate, Option, Some, refl, sym, ◌∙◌, ap, subst, arith, append_assoc}
 use Rattle.std.proofs.lemmas.Bool.{eqb-true, eqb-false, eq-eqb, ne_eqb, cases_lt}
 use Rattle.ctr_area.proofs.ctr_versions.Keys.{known}
-use Rattle.ctr_rec.specs.declared.record.Overlay.{Overlay}
-use Rattle.ctr_rec.specs.declared.record.Record.{Record}
+use Rattle.ctr_redo.specs.rec_Overlay.{Overlay}
+use Rattle.ctr_redo.specs.rec_Record.{Record}
 use Rattle.ctr_redo.specs.ctr_pool.Pages.{overlaid_by}
 use Rattle.ctr_redo.specs.Overlaid.{lies_on, laid_over, overlay_of, touches, changed_by}
 use Rattle.ctr_redo.specs.States.{State, pages_after, step, page_at}
-use Rattle.ctr_page.specs.Reading.{put_over}
+use Rattle.ctr_area.specs.ctr_page.Reading.{put_over}
 use Rattle.ctr_area.specs.Changes.{with_page}
 use Rattle.ctr_record_effects.specs.States.{pages_in, IsWholePage}
 use Rattle.ctr_record_effects.specs.Changing.{laid_at, laid_clear}

@@ -1,14 +1,14 @@
 -- What stands at a place, laid over it by a record.
 use Rattle.std.proofs.Common.{◌≡◌, cond, sym, ◌∙◌, ap, ℕ, List}
 use Rattle.std.proofs.lemmas.Bool.{eq-eqb}
-use Rattle.ctr_rec.specs.declared.record.Record.{Record}
+use Rattle.ctr_redo.specs.rec_Record.{Record}
 use Rattle.ctr_redo.specs.States.{State, step}
-use Rattle.ctr_page.specs.declared.rows.Place.{Place}
-use Rattle.ctr_page.specs.Places.{slot_size, kept_size, start_of}
+use Rattle.ctr_area.specs.ctr_page.declared.rows.Place.{Place}
+use Rattle.ctr_area.specs.ctr_page.Places.{slot_size, kept_size, start_of}
 use Rattle.ctr_area.specs.Reading.{header_on, width_on, size_on}
 use Rattle.ctr_area.specs.Changes.{with_bytes_at, with_page, IsPlaceOf}
 use Rattle.ctr_area.proofs.Written.{one_of_two}
-use Rattle.ctr_page.specs.Reading.{put_over}
+use Rattle.ctr_area.specs.ctr_page.Reading.{put_over}
 use Rattle.ctr_record_effects.specs.States.{pages_in, IsWholePage}
 use Rattle.ctr_record_effects.specs.Changing.{laid_on_place, Lays}
 use Rattle.ctr_record_effects.proofs.Laid.{bytes_laid}

@@ -1,18 +1,18 @@
 -- The records that change pages, each with the bytes that it lays. x is a transaction, p a page, e
 -- an entry of the catalog.
 use Rattle.std.specs.Prelude.{◌≡◌, ℕ, ◌+◌, ◌*◌, ◌/◌, ◌%◌, true, false, List, [], ◌∷◌, Some}
-use Rattle.ctr_bytes.specs.Fields.{spelled}
-use Rattle.ctr_rec.specs.declared.record.Overlay.{Overlay}
-use Rattle.ctr_rec.specs.declared.record.Record.{Record}
-use Rattle.ctr_rec.specs.declared.record.Record.TheVariants.{Alloc, Format, Link, Free, Unlink, Create, Uncreate, Drop, Undrop}
+use Rattle.ctr_area.specs.ctr_bytes.Fields.{spelled}
+use Rattle.ctr_redo.specs.rec_Overlay.{Overlay}
+use Rattle.ctr_redo.specs.rec_Record.{Record}
+use Rattle.ctr_redo.specs.rec_Record.TheVariants.{Alloc, Format, Link, Free, Unlink, Create, Uncreate, Drop, Undrop}
 use Rattle.ctr_redo.specs.Overlaid.{overlay_of}
-use Rattle.ctr_types.specs.declared.value.Column.{Column}
-use Rattle.ctr_page.specs.declared.header.Header.{Header}
-use Rattle.ctr_page.specs.declared.rows.Place.{Place}
-use Rattle.ctr_page.specs.declared.table.TheConstants.{ENTRY_SIZE, DROPPER_AT, FIRSTS_AT, VERSIONS_AT}
-use Rattle.ctr_page.specs.Places.{start_of}
-use Rattle.ctr_page.specs.Making.{header_bytes}
-use Rattle.ctr_page.specs.Columns.{new_entry_bytes}
+use Rattle.ctr_area.specs.types_Column.{Column}
+use Rattle.ctr_area.specs.ctr_page.declared.header.Header.{Header}
+use Rattle.ctr_area.specs.ctr_page.declared.rows.Place.{Place}
+use Rattle.ctr_area.specs.ctr_page.declared.table.TheConstants.{ENTRY_SIZE, DROPPER_AT, FIRSTS_AT, VERSIONS_AT}
+use Rattle.ctr_area.specs.ctr_page.Places.{start_of}
+use Rattle.ctr_area.specs.ctr_page.Making.{header_bytes}
+use Rattle.ctr_area.specs.ctr_page.Columns.{new_entry_bytes}
 
 -- bytes over those of a page from a place on
 abbrev pub laid_at : ℕ → ℕ → List ℕ → Overlay

@@ -1,7 +1,7 @@
 -- What stands in the pages of a state.
 use Rattle.std.specs.Prelude.{◌≡◌, ℕ, List, length}
 use Rattle.ctr_redo.specs.States.{State, page_at}
-use Rattle.ctr_page.specs.declared.table.TheConstants.{PAGE_SIZE}
+use Rattle.ctr_area.specs.ctr_page.declared.table.TheConstants.{PAGE_SIZE}
 use Rattle.ctr_area.specs.Areas.{Area}
 use Rattle.ctr_area.specs.Reading.{area_of}
 

@@ -1,6 +1,6 @@
 // Records on tables.
 ghost use Rattle.std.specs.Prelude.{◌≡◌, ◌≢◌, ◌<◌, ◌≤◌, ◌/◌, ◌+◌, ◌^◌, ℕ, List, length};
-ghost use Rattle.ctr_types.specs.declared.value.Column.{Column};
+ghost use Rattle.ctr_area.specs.types_Column.{Column};
 ghost use Rattle.ctr_area.specs.ctr_value.Columns.{ColumnsFit};
 ghost use Rattle.ctr_redo.specs.States.{State, step};
 ghost use Rattle.ctr_area.specs.Changes.{with_title, new_title, empty_chains, ChangesEntry};

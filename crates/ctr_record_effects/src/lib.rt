@@ -11,6 +11,10 @@ pub use catalog::{
     a_drop_changes_its_title, a_new_table_has_its_entry, an_uncreate_changes_its_title,
     an_undrop_changes_its_title,
 };
+pub use ctr_area::{
+    BadChain, BadPage, CatalogEntry, Chain, EntryState, Place, check_entry, check_header,
+    read_entry, read_header,
+};
 pub use overlays::{over_cleared, over_entry, over_page, over_place};
 pub use pages::{
     a_format_clears_its_page, a_free_changes_its_bit, a_link_changes_its_chain,

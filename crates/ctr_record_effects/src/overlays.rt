@@ -1,11 +1,11 @@
 // The overlays of records: bytes over those of a page.
 ghost use Rattle.std.specs.Prelude.{◌≡◌, ◌≤◌, ◌<◌, ◌+◌, ◌*◌, ◌%◌};
-ghost use Rattle.ctr_page.specs.declared.table.TheConstants.{PAGE_SIZE, ENTRY_SIZE};
-ghost use Rattle.ctr_page.specs.Places.{start_of};
+ghost use Rattle.ctr_area.specs.ctr_page.declared.table.TheConstants.{PAGE_SIZE, ENTRY_SIZE};
+ghost use Rattle.ctr_area.specs.ctr_page.Places.{start_of};
 ghost use Rattle.ctr_record_effects.specs.Changing.{laid_at, laid_clear, laid_in_entry, laid_on_place};
 
-use ctr_page::Place;
-use ctr_rec::{Bytes, Overlay, PageNo};
+use ctr_area::Place;
+use ctr_redo::{Bytes, Overlay, PageNo};
 
 /// Bytes over those of a page from a place on.
 pub fn over_page<'a>(page: PageNo, at: u16, bytes: &'a [u8]) -> Overlay<'a>

@@ -1,9 +1,9 @@
 // Records on whole pages: their bits, their headers, the chains that they begin.
 ghost use Rattle.std.specs.Prelude.{◌≡◌, ◌≢◌, ◌<◌, ◌≤◌, ◌/◌, ◌%◌, ◌+◌, ◌^◌, ℕ, true, false, slice_index};
 ghost use Rattle.ctr_redo.specs.States.{State, step};
-ghost use Rattle.ctr_page.specs.declared.header.Header.{Header};
-ghost use Rattle.ctr_page.specs.Readable.{PartsHaveRoom};
-ghost use Rattle.ctr_page.specs.Making.{IsHeader};
+ghost use Rattle.ctr_area.specs.ctr_page.declared.header.Header.{Header};
+ghost use Rattle.ctr_area.specs.ctr_page.Readable.{PartsHaveRoom};
+ghost use Rattle.ctr_area.specs.ctr_page.Making.{IsHeader};
 ghost use Rattle.ctr_area.specs.Reading.{entry_bytes};
 ghost use Rattle.ctr_area.specs.Changes.{with_taken, with_blank, with_firsts, with_bucket, IsBitSet};
 ghost use Rattle.ctr_record_effects.specs.States.{pages_in, area_in, IsWholePage};

@@ -1,12 +1,12 @@
 // Records on what stands at a place of a page: Row, Revert and Trim of a slot; Keep and Trim of a version entry.
 ghost use Rattle.std.specs.Prelude.{◌≡◌};
-ghost use Rattle.ctr_rec.specs.declared.record.Record.{Record};
+ghost use Rattle.ctr_redo.specs.rec_Record.{Record};
 ghost use Rattle.ctr_redo.specs.States.{State, step};
-ghost use Rattle.ctr_page.specs.declared.rows.Place.{Place};
-ghost use Rattle.ctr_page.specs.declared.rows.RowSlot.{RowSlot};
-ghost use Rattle.ctr_page.specs.declared.rows.VersionEntry.{VersionEntry};
-ghost use Rattle.ctr_page.specs.Places.{slot_size, kept_size};
-ghost use Rattle.ctr_page.specs.Making.{slot_bytes, kept_bytes, IsSlot, IsEntry};
+ghost use Rattle.ctr_area.specs.ctr_page.declared.rows.Place.{Place};
+ghost use Rattle.ctr_area.specs.ctr_page.declared.rows.RowSlot.{RowSlot};
+ghost use Rattle.ctr_area.specs.ctr_page.declared.rows.VersionEntry.{VersionEntry};
+ghost use Rattle.ctr_area.specs.ctr_page.Places.{slot_size, kept_size};
+ghost use Rattle.ctr_area.specs.ctr_page.Making.{slot_bytes, kept_bytes, IsSlot, IsEntry};
 ghost use Rattle.ctr_area.specs.Reading.{slot_said, older_said, columns_on, width_on};
 ghost use Rattle.ctr_area.specs.Changes.{with_slot, with_older, IsPlaceOf};
 ghost use Rattle.ctr_record_effects.specs.States.{pages_in, area_in, IsWholePage};

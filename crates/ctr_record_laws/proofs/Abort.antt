@@ -11,14 +11,14 @@ use Rattle.ctr_record_laws.proofs.Begin.{xids_append}
 use Rattle.ctr_record_laws.proofs.Forget.{creator_not, dropper_not}
 use Rattle.ctr_record_laws.proofs.Leaving.{all_without, among_without, still_among, once_less, once_both, names_agree, behind_more, AgreeOnNames}
 use Rattle.ctr_record_laws.specs.Owed.{OwedByAbort}
-use Rattle.ctr_meta.specs.Effects.{rolled_back}
-use Rattle.ctr_meta.specs.Tables.{Tables, is_in, heads_in}
+use Rattle.ctr_area.specs.meta_Effects.{rolled_back}
+use Rattle.ctr_area.specs.meta_Tables.{Tables, is_in, heads_in}
 use Rattle.ctr_record_laws.proofs.Heads.{listed_drawn, listed_open}
 use Rattle.ctr_record_laws.proofs.Members.{among_front, among_rest, among_parts, all_parts, all_both}
 use Rattle.ctr_record_laws.proofs.Xids.{among_in, in_among, not_both, once_parts, tells, looked_up}
-use Rattle.ctr_rec.specs.declared.record.SlogItem.TheVariants.{AllocOf, CreateOf, DropOf}
+use Rattle.ctr_area.specs.rec_SlogItem.TheVariants.{AllocOf, CreateOf, DropOf}
 use Rattle.ctr_record_laws.proofs.Owning.{all_of}
-use Rattle.ctr_versions.proofs.Keys.{known}
+use Rattle.ctr_area.proofs.ctr_versions.Keys.{known}
 
 module _ (counted : ℕ) (tables : Tables) (area : Area) (x : ℕ) (sound : IsSoundArea counted tables area) (owed : OwedByAbort tables x) where
   abbrev heads : ℕ

@@ -5,8 +5,8 @@ use Rattle.std.specs.List.{AllByRecursion}
 use Rattle.std.specs.Prelude.{◌==◌}
 use Rattle.ctr_area.specs.Areas.{RowVersion, Older}
 use Rattle.ctr_area.specs.Chains.{places_along, Leads}
-use Rattle.ctr_page.specs.declared.rows.Place.{Place}
-use Rattle.ctr_versions.proofs.Keys.{known}
+use Rattle.ctr_area.specs.ctr_page.declared.rows.Place.{Place}
+use Rattle.ctr_area.proofs.ctr_versions.Keys.{known}
 
 -- the versions at these places
 abbrev pub versions_at : (Place → Older) → List Place → List RowVersion

@@ -7,14 +7,14 @@ use Rattle.ctr_area.specs.Areas.{Firsts, RowVersion, Slot, Older, Area}
 use Rattle.ctr_area.specs.Chains.{pages_bound, older_bound, pages_from, places_on, places_from, slot_places, older_places, table_pages, places_along, if_any, chain_of, Leads}
 use Rattle.ctr_area.specs.Images.{entry_numbers}
 use Rattle.ctr_area.specs.Sound.{IsAmong, how_many, IsUsedSlot, EndsIn, IsOfRows, IsOfVersions, AreBuckets, AreReadable, AreBehind, is_headed_by, head_count, AreCounted, page_of_item, owned_pages, AreKeyed, IsKeptFor, along, ArePointed, PreviousBelow, NumbersBelow}
-use Rattle.ctr_meta.specs.Tables.{Tables}
+use Rattle.ctr_area.specs.meta_Tables.{Tables}
 use Rattle.ctr_record_laws.proofs.Along.{versions_at, same_along, all_along, leads_same, same_versions}
 use Rattle.ctr_record_laws.proofs.Members.{among_front, among_rest, among_parts, among_flat, all_each, bit}
-use Rattle.ctr_page.specs.Places.{bucket_of}
-use Rattle.ctr_page.specs.declared.header.Header.{Header}
-use Rattle.ctr_page.specs.declared.rows.Place.{Place}
-use Rattle.ctr_rec.specs.declared.record.SlogItem.{SlogItem}
-use Rattle.ctr_versions.proofs.Keys.{known}
+use Rattle.ctr_area.specs.ctr_page.Places.{bucket_of}
+use Rattle.ctr_area.specs.ctr_page.declared.header.Header.{Header}
+use Rattle.ctr_area.specs.ctr_page.declared.rows.Place.{Place}
+use Rattle.ctr_area.specs.rec_SlogItem.{SlogItem}
+use Rattle.ctr_area.proofs.ctr_versions.Keys.{known}
 
 -- the areas agree on these pages
 pub record IsSameOn (on : ℕ → Type 0) (old new : Area) : Type 0 where

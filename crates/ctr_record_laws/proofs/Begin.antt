@@ -8,19 +8,19 @@ use Rattle.ctr_area.specs.Areas.{Title, RowVersion, Area}
 use Rattle.ctr_area.specs.Chains.{slot_places}
 use Rattle.ctr_area.specs.Images.{is_committed_in, entry_numbers, is_standing, is_live}
 use Rattle.ctr_area.specs.Sound.{IsAmong, AreAllOnce, xids_in, AreBehind, is_headed_by, head_count, AreCounted, AreNamed, PreviousBelow, NumbersBelow, IsSoundArea, IsOneOf, all_undone, stands_for}
-use Rattle.ctr_meta.specs.Effects.{opened_by}
-use Rattle.ctr_meta.specs.Items.{is_item_by}
-use Rattle.ctr_meta.specs.Tables.{Tables, is_in}
+use Rattle.ctr_area.specs.meta_Effects.{opened_by}
+use Rattle.ctr_area.specs.meta_Items.{is_item_by}
+use Rattle.ctr_area.specs.meta_Tables.{Tables, is_in}
 use Rattle.ctr_record_laws.proofs.Heads.{listed_open}
 use Rattle.ctr_record_laws.proofs.Members.{among_front, among_rest, among_parts, among_flat, all_parts, all_both}
 use Rattle.ctr_record_laws.proofs.Xids.{among_in, in_among}
-use Rattle.ctr_rec.specs.declared.record.SlogItem.{SlogItem}
-use Rattle.ctr_rec.specs.declared.record.SlogItem.TheVariants.{AllocOf, FreeOf, CreateOf, DropOf}
+use Rattle.ctr_area.specs.rec_SlogItem.{SlogItem}
+use Rattle.ctr_area.specs.rec_SlogItem.TheVariants.{AllocOf, FreeOf, CreateOf, DropOf}
 use Rattle.ctr_record_laws.proofs.Latest.{live_below}
 use Rattle.ctr_record_laws.proofs.Links.{none_pass}
 use Rattle.ctr_record_laws.proofs.Owning.{all_of}
 use Rattle.ctr_record_laws.proofs.Undone.{one_of_from}
-use Rattle.ctr_versions.proofs.Keys.{known}
+use Rattle.ctr_area.proofs.ctr_versions.Keys.{known}
 
 -- the titles of a catalog, to who has no item
 pub no_items_of : (x : ℕ) (items : List SlogItem) → ((z : SlogItem) → IsAmong z items → is_item_by x z ≡ false) → filter (is_item_by x) items ≡ []

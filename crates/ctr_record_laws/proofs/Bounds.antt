@@ -4,9 +4,9 @@ use Rattle.std.specs.Prelude.{◌==◌, nat_le}
 use Rattle.std.proofs.lemmas.Bool.{le-ltb, eq-eqb}
 use Rattle.std.proofs.Math.Nat.{div-le_of_le-mul}
 use Rattle.ctr_area.specs.ctr_bytes.Fields.{field}
-use Rattle.ctr_page.specs.Places.{slot_size, kept_size, room_for}
-use Rattle.ctr_page.specs.Reading.{piece}
-use Rattle.ctr_page.specs.Columns.{entry_in, first_in, versions_first_in}
+use Rattle.ctr_area.specs.ctr_page.Places.{slot_size, kept_size, room_for}
+use Rattle.ctr_area.specs.ctr_page.Reading.{piece}
+use Rattle.ctr_area.specs.ctr_page.Columns.{entry_in, first_in, versions_first_in}
 use Rattle.ctr_area.specs.Areas.{Firsts, no_pages}
 use Rattle.ctr_area.specs.Reading.{entry_bytes, bucket_numbers, title_of, firsts_of, header_on, width_on, size_of_kind, area_of}
 use Rattle.ctr_record_laws.specs.Bounds.{no_title, IsInBounds}

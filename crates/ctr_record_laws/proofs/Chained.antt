@@ -6,11 +6,11 @@ use Rattle.ctr_area.specs.Areas.{Firsts, Older, Area}
 use Rattle.ctr_area.specs.Chains.{pages_bound, pages_from, places_on, places_from, slot_places, older_places}
 use Rattle.ctr_area.specs.Changes.{with_firsts, with_bucket}
 use Rattle.ctr_area.specs.Sound.{IsAmong, EndsIn, IsOfRows, IsSoundArea}
-use Rattle.ctr_meta.specs.Tables.{Tables}
+use Rattle.ctr_area.specs.meta_Tables.{Tables}
 use Rattle.ctr_record_laws.proofs.Members.{among_front, among_rest, among_flat, on_page}
 use Rattle.ctr_record_laws.specs.Bounds.{IsInBounds}
-use Rattle.ctr_page.specs.declared.header.Header.{Header}
-use Rattle.ctr_page.specs.declared.rows.Place.{Place}
+use Rattle.ctr_area.specs.ctr_page.declared.header.Header.{Header}
+use Rattle.ctr_area.specs.ctr_page.declared.rows.Place.{Place}
 use Rattle.ctr_record_laws.proofs.Ends.{page_goes_on, page_ends, behind_chain, front_places, set_among, one_among, bucket_chain}
 use Rattle.ctr_record_laws.proofs.Firsts.{by_entry}
 use Rattle.ctr_record_laws.proofs.Links.{older_front}

@@ -8,7 +8,7 @@ use Rattle.ctr_area.specs.Chains.{older_bound, slot_places, places_along, chain_
 use Rattle.ctr_area.specs.Changes.{with_slot}
 use Rattle.ctr_area.specs.Images.{is_committed_in, versions_in}
 use Rattle.ctr_area.specs.Sound.{IsAmong, xids_in, IsUsedSlot, head_count, AreCounted, IsKeptFor, along, PreviousBelow, IsSoundArea}
-use Rattle.ctr_meta.specs.Tables.{Tables, is_in}
+use Rattle.ctr_area.specs.meta_Tables.{Tables, is_in}
 use Rattle.ctr_record_laws.proofs.Heads.{heads_changed, turn, plus_zero}
 use Rattle.ctr_record_laws.proofs.Members.{StandsOnce, bit}
 use Rattle.ctr_record_laws.proofs.OneSlot.{place_cases, slot_here, slot_apart, was_used, now_used}
@@ -17,9 +17,9 @@ use Rattle.ctr_record_laws.proofs.Pointers.{slot_pointers}
 use Rattle.ctr_record_laws.proofs.Slots.{slot_set, slot_was}
 use Rattle.ctr_record_laws.proofs.Xids.{carried, HaveSameXids}
 use Rattle.ctr_record_laws.specs.Bounds.{IsInBounds}
-use Rattle.ctr_page.specs.Places.{bucket_of}
-use Rattle.ctr_page.specs.declared.rows.Place.{Place}
-use Rattle.ctr_versions.specs.Versions.{rows_of, RowsSet}
+use Rattle.ctr_area.specs.ctr_page.Places.{bucket_of}
+use Rattle.ctr_area.specs.ctr_page.declared.rows.Place.{Place}
+use Rattle.ctr_area.specs.versions_Versions.{rows_of, RowsSet}
 
 -- the versions are committed
 abbrev pub AreGood : (ℕ → Bool) → List RowVersion → Type 0

@@ -10,20 +10,20 @@ use Rattle.ctr_area.specs.Images.{is_committed_in, entry_numbers, is_standing, i
 use Rattle.ctr_area.specs.Sound.{IsAmong, AreAllOnce, how_many, xids_in, head_count, page_of_item, owned_pages, AreNamed, IsSoundArea, IsOneOf, IsSchemaItem, all_undone, stands_for, is_creation, is_dropping}
 use Rattle.ctr_record_laws.proofs.Leaving.{all_without, among_without, still_among, once_less, once_both, same_creator, same_dropper, behind_more, same_name_undone}
 use Rattle.ctr_record_laws.specs.Owed.{OwedByCommit}
-use Rattle.ctr_meta.specs.Items.{is_schema_by, is_item_by}
-use Rattle.ctr_meta.specs.Effects.{committed}
-use Rattle.ctr_meta.specs.Tables.{Tables, is_in}
+use Rattle.ctr_area.specs.meta_Items.{is_schema_by, is_item_by}
+use Rattle.ctr_area.specs.meta_Effects.{committed}
+use Rattle.ctr_area.specs.meta_Tables.{Tables, is_in}
 use Rattle.ctr_record_laws.proofs.Heads.{listed_drawn, listed_open, open_listed}
 use Rattle.ctr_record_laws.proofs.Members.{among_front, among_rest, among_parts, all_parts, all_both, bit}
 use Rattle.ctr_record_laws.proofs.Xids.{among_in, in_among, not_both, once_parts}
-use Rattle.ctr_rec.specs.declared.record.SlogItem.{SlogItem}
-use Rattle.ctr_rec.specs.declared.record.SlogItem.TheVariants.{AllocOf, FreeOf, CreateOf, DropOf}
+use Rattle.ctr_area.specs.rec_SlogItem.{SlogItem}
+use Rattle.ctr_area.specs.rec_SlogItem.TheVariants.{AllocOf, FreeOf, CreateOf, DropOf}
 use Rattle.ctr_record_laws.proofs.Few.{count}
 use Rattle.ctr_record_laws.proofs.Latest.{live_some, live_open}
 use Rattle.ctr_record_laws.proofs.Named.{head_same, tail_same}
 use Rattle.ctr_record_laws.proofs.Owning.{all_of}
 use Rattle.ctr_record_laws.proofs.Undone.{undone_apart, undone_dead, one_of_from, filter_among, among_filter, drop_among}
-use Rattle.ctr_versions.proofs.Keys.{known}
+use Rattle.ctr_area.proofs.ctr_versions.Keys.{known}
 
 -- ---- lists of which some members are left out
 

@@ -8,22 +8,22 @@ use Rattle.ctr_area.specs.Areas.{Title, Area}
 use Rattle.ctr_area.specs.Changes.{with_title, with_firsts, new_title, empty_chains, ChangesEntry}
 use Rattle.ctr_area.specs.Images.{is_committed_in, is_standing, is_live}
 use Rattle.ctr_area.specs.Sound.{IsAmong, how_many, xids_in, AreNamed, IsSoundArea, IsOneOf, IsSchemaItem, all_undone, undone, stands_for, is_creation, is_dropping}
-use Rattle.ctr_meta.specs.Effects.{with_item}
-use Rattle.ctr_meta.specs.Items.{is_item_by}
-use Rattle.ctr_meta.specs.Tables.{Tables}
+use Rattle.ctr_area.specs.meta_Effects.{with_item}
+use Rattle.ctr_area.specs.meta_Items.{is_item_by}
+use Rattle.ctr_area.specs.meta_Tables.{Tables}
 use Rattle.ctr_record_laws.proofs.Heads.{listed_drawn}
 use Rattle.ctr_record_laws.proofs.Members.{bit}
 use Rattle.ctr_record_laws.proofs.Xids.{in_among}
 use Rattle.ctr_record_laws.specs.Bounds.{IsInBounds}
-use Rattle.ctr_rec.specs.declared.record.SlogItem.{SlogItem}
-use Rattle.ctr_rec.specs.declared.record.SlogItem.TheVariants.{AllocOf, FreeOf, CreateOf, DropOf}
+use Rattle.ctr_area.specs.rec_SlogItem.{SlogItem}
+use Rattle.ctr_area.specs.rec_SlogItem.TheVariants.{AllocOf, FreeOf, CreateOf, DropOf}
 use Rattle.ctr_record_laws.proofs.Fresh.{AreNoPages, empty_are_none, mid_sound, fresh_pages, fresh_sound}
 use Rattle.ctr_record_laws.proofs.Items.{added, up_one, down_one, count_one, it_is_in, IsWithOne}
 use Rattle.ctr_record_laws.proofs.Latest.{entry_of_item, xid_of_item, create_isnt_drop, owned_and_one, by_title, title_here, title_apart, live_open}
 use Rattle.ctr_record_laws.proofs.Undone.{undone_at, undone_apart, undone_dead, undone_last, one_of_from, filter_apart, filter_there, filter_among, drop_among, last_dropped, cut_end, uncounted}
 use Rattle.ctr_record_laws.specs.Owed.{OwedByCreate}
-use Rattle.ctr_types.specs.declared.value.Column.{Column}
-use Rattle.ctr_versions.proofs.Keys.{known}
+use Rattle.ctr_area.specs.types_Column.{Column}
+use Rattle.ctr_area.proofs.ctr_versions.Keys.{known}
 
 module _ (counted : ℕ) (tables : Tables) (area : Area) (x e : ℕ) (name : List ℕ) (columns : List Column) (sound : IsSoundArea counted tables area) (owed : OwedByCreate tables area x e name) where
   abbrev items : List SlogItem

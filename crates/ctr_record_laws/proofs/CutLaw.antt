@@ -13,9 +13,9 @@ use Rattle.ctr_record_laws.proofs.Members.{all_parts, all_both}
 use Rattle.ctr_record_laws.proofs.OneSlot.{place_cases}
 use Rattle.ctr_record_laws.proofs.Writes.{behind_pointer}
 use Rattle.ctr_record_laws.specs.Owed.{PreviousStays, IsFirstPassing}
-use Rattle.ctr_page.specs.declared.rows.Place.{Place}
-use Rattle.ctr_versions.proofs.Keys.{known}
-use Rattle.ctr_versions.specs.Changes.{cut}
+use Rattle.ctr_area.specs.ctr_page.declared.rows.Place.{Place}
+use Rattle.ctr_area.proofs.ctr_versions.Keys.{known}
+use Rattle.ctr_area.specs.versions_Changes.{cut}
 
 -- ---- along the pointers, where one entry is changed
 

@@ -6,11 +6,11 @@ use Rattle.ctr_area.specs.Areas.{Title, Firsts, Older, Area}
 use Rattle.ctr_area.specs.Chains.{pages_bound, pages_from, places_from, slot_places, table_pages}
 use Rattle.ctr_area.specs.Changes.{with_firsts, with_blank, ChangesEntry}
 use Rattle.ctr_area.specs.Sound.{IsAmong, IsUsedSlot, ArePointed, IsSoundArea}
-use Rattle.ctr_meta.specs.Tables.{Tables}
+use Rattle.ctr_area.specs.meta_Tables.{Tables}
 use Rattle.ctr_record_laws.proofs.Members.{among_front, among_rest, among_parts}
 use Rattle.ctr_record_laws.specs.Bounds.{IsInBounds}
-use Rattle.ctr_page.specs.declared.header.Header.{Header}
-use Rattle.ctr_page.specs.declared.rows.Place.{Place}
+use Rattle.ctr_area.specs.ctr_page.declared.header.Header.{Header}
+use Rattle.ctr_area.specs.ctr_page.declared.rows.Place.{Place}
 use Rattle.ctr_record_laws.proofs.Away.{place_on_chains, older_places_same, used_back, away_along, IsSameOn}
 use Rattle.ctr_record_laws.proofs.Format.{same_away, in_tables}
 use Rattle.ctr_record_laws.proofs.Fresh.{AreZeros, AreNoPages, table_entry, mid_sound, fresh_away, fresh_firsts, fresh_tables}

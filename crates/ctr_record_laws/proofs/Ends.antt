@@ -7,8 +7,8 @@ use Rattle.ctr_area.specs.Areas.{Area}
 use Rattle.ctr_area.specs.Chains.{pages_bound, pages_from, places_on, places_from}
 use Rattle.ctr_area.specs.Sound.{IsAmong, how_many, EndsIn, IsOfRows, AreBuckets}
 use Rattle.ctr_record_laws.proofs.Members.{among_front, among_rest, among_parts, count_append}
-use Rattle.ctr_page.specs.declared.header.Header.{Header}
-use Rattle.ctr_versions.proofs.Keys.{known}
+use Rattle.ctr_area.specs.ctr_page.declared.header.Header.{Header}
+use Rattle.ctr_area.proofs.ctr_versions.Keys.{known}
 
 -- so many steps, and one
 pub steps : (n : ℕ) × (pages_bound ≡ suc n)

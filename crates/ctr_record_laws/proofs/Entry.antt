@@ -8,16 +8,16 @@ use Rattle.ctr_area.specs.Areas.{Title, no_pages, Area}
 use Rattle.ctr_area.specs.Changes.{with_title, with_firsts, ChangesEntry}
 use Rattle.ctr_area.specs.Images.{is_committed_in, is_standing, is_live}
 use Rattle.ctr_area.specs.Sound.{IsAmong, how_many, xids_in, owned_pages, AreNamed, IsSoundArea, IsSchemaItem, all_undone, stands_for}
-use Rattle.ctr_meta.specs.Items.{is_item_by}
-use Rattle.ctr_meta.specs.Tables.{Tables}
-use Rattle.ctr_rec.specs.declared.record.SlogItem.{SlogItem}
-use Rattle.ctr_rec.specs.declared.record.SlogItem.TheVariants.{CreateOf, DropOf}
+use Rattle.ctr_area.specs.meta_Items.{is_item_by}
+use Rattle.ctr_area.specs.meta_Tables.{Tables}
+use Rattle.ctr_area.specs.rec_SlogItem.{SlogItem}
+use Rattle.ctr_area.specs.rec_SlogItem.TheVariants.{CreateOf, DropOf}
 use Rattle.ctr_record_laws.proofs.Fresh.{AreNoPages, mid_sound, fresh_pages, fresh_sound}
 use Rattle.ctr_record_laws.proofs.Latest.{title_apart, titled_sound, live_below, live_open}
 use Rattle.ctr_record_laws.proofs.Owning.{all_of}
 use Rattle.ctr_record_laws.proofs.Undone.{undone_at, undone_dead, one_of_from}
 use Rattle.ctr_record_laws.specs.Owed.{OwedByDying, OwedByFreeing}
-use Rattle.ctr_versions.proofs.Keys.{known}
+use Rattle.ctr_area.proofs.ctr_versions.Keys.{known}
 
 -- ---- an entry that isn't live from now on, and has no item
 

@@ -10,7 +10,7 @@ use Rattle.ctr_area.specs.Chains.{older_bound, slot_places, older_places, chain_
 use Rattle.ctr_area.specs.Changes.{with_older}
 use Rattle.ctr_area.specs.Images.{is_committed_in, versions_in}
 use Rattle.ctr_area.specs.Sound.{IsAmong, xids_in, IsUsedSlot, AreBehind, IsKeptFor, along, ArePointed, NumbersBelow, IsSoundArea}
-use Rattle.ctr_meta.specs.Tables.{Tables}
+use Rattle.ctr_area.specs.meta_Tables.{Tables}
 use Rattle.ctr_record_laws.proofs.CutLaw.{away_chain, away_along, cut_leads, cut_along, cut_chain_all, cut_chain, first_among, out_leads}
 use Rattle.ctr_record_laws.proofs.Gathering.{matches, is_match, match_used, match_key, found_here, same_found}
 use Rattle.ctr_record_laws.proofs.Kept.{older_apart, older_here, behind_stays, kept_chains, kept_pointers}
@@ -19,9 +19,9 @@ use Rattle.ctr_record_laws.proofs.Owned.{slot_inside, one_table}
 use Rattle.ctr_record_laws.proofs.Slots.{slots_here, slots_past, rows_sorted, chain_found, slot_was}
 use Rattle.ctr_record_laws.specs.Bounds.{IsInBounds}
 use Rattle.ctr_record_laws.specs.Owed.{OwedByKeep, OwedByCut, cut_at, IsInNoChain}
-use Rattle.ctr_page.specs.declared.rows.Place.{Place}
-use Rattle.ctr_versions.specs.Changes.{cut}
-use Rattle.ctr_versions.specs.Versions.{rows_of, is_slot, RowsSet}
+use Rattle.ctr_area.specs.ctr_page.declared.rows.Place.{Place}
+use Rattle.ctr_area.specs.versions_Changes.{cut}
+use Rattle.ctr_area.specs.versions_Versions.{rows_of, is_slot, RowsSet}
 
 -- ---- one chain is another
 

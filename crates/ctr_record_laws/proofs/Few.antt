@@ -8,12 +8,12 @@ use Rattle.ctr_area.specs.Areas.{Area}
 use Rattle.ctr_area.specs.Chains.{pages_bound, pages_from, table_pages}
 use Rattle.ctr_area.specs.Images.{numbers, entry_numbers}
 use Rattle.ctr_area.specs.Sound.{IsAmong, how_many, page_of_item, owned_pages, IsSoundArea}
-use Rattle.ctr_meta.specs.Tables.{Tables}
+use Rattle.ctr_area.specs.meta_Tables.{Tables}
 use Rattle.ctr_record_laws.proofs.Members.{count_append, count_among, bit}
 use Rattle.ctr_record_laws.proofs.Room.{AreApart, apart_fit}
 use Rattle.ctr_record_laws.proofs.Ends.{one_count}
 use Rattle.ctr_record_laws.proofs.Firsts.{counted_among}
-use Rattle.ctr_versions.proofs.Keys.{known}
+use Rattle.ctr_area.proofs.ctr_versions.Keys.{known}
 
 pub counts_apart : (xs : List ℕ) → ((q : ℕ) → how_many (λ r. r == q) xs ≤ 1) → AreApart xs
 counts_apart [] most = tt

@@ -9,15 +9,15 @@ use Rattle.ctr_area.specs.Chains.{pages_bound, older_bound, pages_from, places_f
 use Rattle.ctr_area.specs.Changes.{with_firsts}
 use Rattle.ctr_area.specs.Images.{numbers, entry_numbers}
 use Rattle.ctr_area.specs.Sound.{IsAmong, how_many, IsUsedSlot, EndsIn, IsOfVersions, AreBuckets, AreReadable, AreBehind, is_headed_by, head_count, AreCounted, page_of_item, owned_pages, AreOwned, AreKeyed, IsKeptFor, ArePointed, NumbersBelow}
-use Rattle.ctr_meta.specs.Tables.{Tables}
+use Rattle.ctr_area.specs.meta_Tables.{Tables}
 use Rattle.ctr_record_laws.proofs.Along.{leads_same}
 use Rattle.ctr_record_laws.proofs.Members.{count_append, count_among, bit}
-use Rattle.ctr_page.specs.declared.rows.Place.{Place}
-use Rattle.ctr_rec.specs.declared.record.SlogItem.{SlogItem}
-use Rattle.ctr_rec.specs.declared.record.SlogItem.TheVariants.{AllocOf, FreeOf, CreateOf, DropOf}
+use Rattle.ctr_area.specs.ctr_page.declared.rows.Place.{Place}
+use Rattle.ctr_area.specs.rec_SlogItem.{SlogItem}
+use Rattle.ctr_area.specs.rec_SlogItem.TheVariants.{AllocOf, FreeOf, CreateOf, DropOf}
 use Rattle.ctr_record_laws.proofs.Named.{kind_of_item}
 use Rattle.ctr_record_laws.proofs.Owning.{all_of}
-use Rattle.ctr_versions.proofs.Keys.{known}
+use Rattle.ctr_area.proofs.ctr_versions.Keys.{known}
 
 pub counted_among : (q : ℕ) (xs : List ℕ) → 1 ≤ how_many (λ r. r == q) xs → IsAmong q xs
 counted_among q [] le = absurd (omega (arith, le))

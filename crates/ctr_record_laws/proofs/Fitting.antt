@@ -6,8 +6,8 @@ use Rattle.ctr_area.specs.Areas.{RowVersion, Area}
 use Rattle.ctr_area.specs.Chains.{pages_bound, pages_from, places_from, slot_places}
 use Rattle.ctr_area.specs.Sound.{IsAmong, IsUsedSlot, IsOfRows, AreBuckets, AreReadable, AreKeyed, PreviousBelow}
 use Rattle.ctr_record_laws.specs.Owed.{Writing, OverHead, HeadMoves, PreviousKept, HeadKept, FirstVersion, written_slot, IsSlotOfKey, IsRoomFor, FitsWriting}
-use Rattle.ctr_page.specs.Places.{bucket_of}
-use Rattle.ctr_page.specs.declared.rows.Place.{Place}
+use Rattle.ctr_area.specs.ctr_page.Places.{bucket_of}
+use Rattle.ctr_area.specs.ctr_page.declared.rows.Place.{Place}
 
 -- a place in the chain of a bucket's first page is on a page of the bucket
 bucket_there : (area : Area) (e : ℕ) (at : Place) (b n : ℕ) (ps : List ℕ) → AreBuckets area e b ps → IsAmong at (places_from area (slice_index ps n)) → (area.header at.page).bucket ≡ b + n

@@ -7,14 +7,14 @@ use Rattle.ctr_area.specs.Areas.{Area}
 use Rattle.ctr_area.specs.Images.{is_committed_in, is_live}
 use Rattle.ctr_area.specs.Sound.{IsAmong, AreAllOnce, xids_in, head_count, IsSoundArea}
 use Rattle.ctr_record_laws.proofs.Leaving.{all_without, among_without, still_among, once_less, once_both, names_agree, behind_more, AgreeOnNames}
-use Rattle.ctr_meta.specs.Effects.{forgotten_by}
-use Rattle.ctr_meta.specs.Tables.{Tables, is_in}
+use Rattle.ctr_area.specs.meta_Effects.{forgotten_by}
+use Rattle.ctr_area.specs.meta_Tables.{Tables, is_in}
 use Rattle.ctr_record_laws.proofs.Heads.{listed_drawn, listed_open}
 use Rattle.ctr_record_laws.proofs.Members.{among_front, among_rest, among_parts, all_parts, all_both}
 use Rattle.ctr_record_laws.proofs.Xids.{among_in, in_among, not_both, once_parts}
-use Rattle.ctr_rec.specs.declared.record.SlogItem.TheVariants.{CreateOf, DropOf}
+use Rattle.ctr_area.specs.rec_SlogItem.TheVariants.{CreateOf, DropOf}
 use Rattle.ctr_record_laws.proofs.Owning.{all_of}
-use Rattle.ctr_versions.proofs.Keys.{known}
+use Rattle.ctr_area.proofs.ctr_versions.Keys.{known}
 
 -- who made or dropped a live entry is committed, open, or nobody
 pub creator_not : (counted : ℕ) (tables : Tables) (area : Area) (x : ℕ) → IsSoundArea counted tables area → is_committed_in tables x ≡ false

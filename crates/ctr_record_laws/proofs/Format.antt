@@ -8,15 +8,15 @@ use Rattle.ctr_area.specs.Chains.{pages_bound, pages_from, table_pages}
 use Rattle.ctr_area.specs.Changes.{with_blank, room_by}
 use Rattle.ctr_area.specs.Images.{is_committed_in, entry_numbers}
 use Rattle.ctr_area.specs.Sound.{IsAmong, how_many, xids_in, page_of_item, owned_pages, AreOwned, IsSoundArea}
-use Rattle.ctr_meta.specs.Items.{is_wanted}
-use Rattle.ctr_meta.specs.Tables.{Tables}
-use Rattle.ctr_meta.specs.declared.items.Wanted.TheVariants.{Allocation}
+use Rattle.ctr_area.specs.meta_Items.{is_wanted}
+use Rattle.ctr_area.specs.meta_Tables.{Tables}
+use Rattle.ctr_area.specs.meta_Wanted.TheVariants.{Allocation}
 use Rattle.ctr_record_laws.proofs.Members.{among_rest, count_append, count_among}
 use Rattle.ctr_record_laws.proofs.Owned.{entry_inside, in_all, owned_once}
 use Rattle.ctr_record_laws.specs.Bounds.{IsInBounds}
-use Rattle.ctr_page.specs.declared.header.Header.{Header}
-use Rattle.ctr_rec.specs.declared.record.SlogItem.{SlogItem}
-use Rattle.ctr_rec.specs.declared.record.SlogItem.TheVariants.{AllocOf, FreeOf, CreateOf, DropOf}
+use Rattle.ctr_area.specs.ctr_page.declared.header.Header.{Header}
+use Rattle.ctr_area.specs.rec_SlogItem.{SlogItem}
+use Rattle.ctr_area.specs.rec_SlogItem.TheVariants.{AllocOf, FreeOf, CreateOf, DropOf}
 use Rattle.ctr_record_laws.proofs.Away.{away_readable, away_pointers, away_behind, away_keys, away_counts, away_pages, away_below, IsSameOn}
 use Rattle.ctr_record_laws.proofs.Items.{the_one, taken_out}
 use Rattle.ctr_record_laws.proofs.Owning.{flat_among}

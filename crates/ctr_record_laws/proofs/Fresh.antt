@@ -9,10 +9,10 @@ use Rattle.ctr_area.specs.Chains.{pages_bound, pages_from, places_on, places_fro
 use Rattle.ctr_area.specs.Changes.{with_title, with_firsts, empty_chains, ChangesEntry}
 use Rattle.ctr_area.specs.Images.{is_committed_in}
 use Rattle.ctr_area.specs.Sound.{IsAmong, how_many, xids_in, EndsIn, IsOfRows, IsOfVersions, AreBuckets, AreReadable, is_headed_by, owned_pages, AreOwned, AreNamed, IsSoundArea}
-use Rattle.ctr_meta.specs.Tables.{Tables}
+use Rattle.ctr_area.specs.meta_Tables.{Tables}
 use Rattle.ctr_record_laws.proofs.Members.{among_parts}
-use Rattle.ctr_page.specs.declared.header.Header.{Header}
-use Rattle.ctr_rec.specs.declared.record.SlogItem.{SlogItem}
+use Rattle.ctr_area.specs.ctr_page.declared.header.Header.{Header}
+use Rattle.ctr_area.specs.rec_SlogItem.{SlogItem}
 use Rattle.ctr_record_laws.proofs.Away.{away_readable, away_pointers, away_behind, away_keys, away_counts, away_pages, away_below, IsSameOn}
 use Rattle.ctr_record_laws.proofs.Ends.{page_ends}
 use Rattle.ctr_record_laws.proofs.Latest.{by_title}

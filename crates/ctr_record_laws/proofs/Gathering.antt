@@ -10,8 +10,8 @@ use Rattle.ctr_area.specs.Chains.{chain_of}
 use Rattle.ctr_area.specs.Images.{rows_gathered, numbers}
 use Rattle.ctr_area.specs.Sound.{IsAmong}
 use Rattle.ctr_record_laws.proofs.Fitting.{alone}
-use Rattle.ctr_page.specs.declared.rows.Place.{Place}
-use Rattle.ctr_versions.proofs.Keys.{known}
+use Rattle.ctr_area.specs.ctr_page.declared.rows.Place.{Place}
+use Rattle.ctr_area.proofs.ctr_versions.Keys.{known}
 
 -- the slot is used and has the key
 abbrev pub matches : (Place → Slot) → ℤ → Place → Bool

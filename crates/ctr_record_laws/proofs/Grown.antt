@@ -5,10 +5,10 @@ use Rattle.std.specs.Prelude.{◌==◌}
 use Rattle.ctr_area.proofs.Buckets.{each_of}
 use Rattle.ctr_area.specs.Areas.{Area}
 use Rattle.ctr_area.specs.Sound.{IsAmong, owned_pages, IsSoundArea}
-use Rattle.ctr_meta.specs.Tables.{Tables}
+use Rattle.ctr_area.specs.meta_Tables.{Tables}
 use Rattle.ctr_record_laws.proofs.Links.{none_pass}
 use Rattle.ctr_record_laws.proofs.Owning.{all_of}
-use Rattle.ctr_versions.proofs.Keys.{known}
+use Rattle.ctr_area.proofs.ctr_versions.Keys.{known}
 
 module _ (counted more : ℕ) (tables : Tables) (area : Area) (le : counted ≤ more) (sound : IsSoundArea counted tables area) where
   abbrev pages : List ℕ

@@ -8,15 +8,15 @@ use Rattle.ctr_area.specs.Areas.{Slot, Area}
 use Rattle.ctr_area.specs.Changes.{with_slot}
 use Rattle.ctr_area.specs.Images.{is_committed_in}
 use Rattle.ctr_area.specs.Sound.{AreAllOnce, xids_in, is_headed_by, head_count, AreCounted, NumbersBelow}
-use Rattle.ctr_meta.specs.Effects.{one_head_more, one_head_less, one_aborted_less}
-use Rattle.ctr_meta.specs.Tables.{Tables, is_in, heads_in, with_heads}
+use Rattle.ctr_area.specs.meta_Effects.{one_head_more, one_head_less, one_aborted_less}
+use Rattle.ctr_area.specs.meta_Tables.{Tables, is_in, heads_in, with_heads}
 use Rattle.ctr_record_laws.proofs.Members.{among_front, among_rest, StandsOnce, all_parts, all_both, bit, count_once}
 use Rattle.ctr_record_laws.proofs.OneSlot.{other_place}
 use Rattle.ctr_record_laws.proofs.Owned.{all_slots}
 use Rattle.ctr_record_laws.proofs.Xids.{same_in, in_among, not_both, once_parts, Tells, tells, told, raised, lowered, retold, more_same, less_same, HaveSameXids}
 use Rattle.ctr_record_laws.specs.Owed.{loses_head}
-use Rattle.ctr_page.specs.declared.rows.Place.{Place}
-use Rattle.ctr_versions.proofs.Keys.{known}
+use Rattle.ctr_area.specs.ctr_page.declared.rows.Place.{Place}
+use Rattle.ctr_area.proofs.ctr_versions.Keys.{known}
 
 -- the heads of each transaction, where one slot changes
 pub heads_changed : (area : Area) (at : Place) (s : Slot) (y : ℕ) → StandsOnce at (all_slots area)

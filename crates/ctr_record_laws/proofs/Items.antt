@@ -5,11 +5,11 @@ use Rattle.std.proofs.lemmas.List.{append-nil}
 use Rattle.std.specs.List.{list_any, flat_map}
 use Rattle.std.specs.Prelude.{◌||◌}
 use Rattle.ctr_area.specs.Sound.{IsAmong, how_many, page_of_item}
-use Rattle.ctr_meta.specs.Items.{is_wanted, left_out}
-use Rattle.ctr_meta.specs.declared.items.Wanted.{Wanted}
+use Rattle.ctr_area.specs.meta_Items.{is_wanted, left_out}
+use Rattle.ctr_area.specs.meta_Wanted.{Wanted}
 use Rattle.ctr_record_laws.proofs.Members.{count_append, bit}
-use Rattle.ctr_rec.specs.declared.record.SlogItem.{SlogItem}
-use Rattle.ctr_versions.proofs.Keys.{known}
+use Rattle.ctr_area.specs.rec_SlogItem.{SlogItem}
+use Rattle.ctr_area.proofs.ctr_versions.Keys.{known}
 
 -- ---- members
 

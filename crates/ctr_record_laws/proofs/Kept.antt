@@ -10,13 +10,13 @@ use Rattle.ctr_area.specs.Chains.{older_bound, slot_places, places_along, if_any
 use Rattle.ctr_area.specs.Changes.{with_older}
 use Rattle.ctr_area.specs.Images.{rows_of_entry, entry_numbers, versions_in, image_rows, tables_standing, is_standing}
 use Rattle.ctr_area.specs.Sound.{IsAmong, IsUsedSlot, AreBehind, IsKeptFor, along, ArePointed}
-use Rattle.ctr_model.specs.Database.{name_cmp}
+use Rattle.ctr_area.specs.model_Database.{name_cmp}
 use Rattle.ctr_record_laws.proofs.Along.{versions_at, same_along, all_along, leads_same, same_versions}
 use Rattle.ctr_record_laws.proofs.Gathering.{same_gathered}
 use Rattle.ctr_record_laws.proofs.Members.{all_each}
 use Rattle.ctr_record_laws.proofs.OneSlot.{other_place}
-use Rattle.ctr_page.specs.declared.rows.Place.{Place}
-use Rattle.ctr_versions.specs.Listing.{entries_seen}
+use Rattle.ctr_area.specs.ctr_page.declared.rows.Place.{Place}
+use Rattle.ctr_area.specs.versions_Listing.{entries_seen}
 
 module _ (area : Area) (at : Place) (k : Older) where
   abbrev after : Area

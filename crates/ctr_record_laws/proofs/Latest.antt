@@ -9,18 +9,18 @@ use Rattle.ctr_area.specs.Areas.{Title, Area}
 use Rattle.ctr_area.specs.Changes.{with_title}
 use Rattle.ctr_area.specs.Images.{is_committed_in, is_live}
 use Rattle.ctr_area.specs.Sound.{IsAmong, how_many, xids_in, page_of_item, owned_pages, AreOwned, AreNamed, IsSoundArea, IsSchemaItem, all_undone, undone}
-use Rattle.ctr_meta.specs.Items.{is_item_by}
-use Rattle.ctr_meta.specs.Tables.{Tables, is_in}
+use Rattle.ctr_area.specs.meta_Items.{is_item_by}
+use Rattle.ctr_area.specs.meta_Tables.{Tables, is_in}
 use Rattle.ctr_record_laws.proofs.Heads.{listed_drawn, listed_open}
 use Rattle.ctr_record_laws.proofs.Members.{among_rest}
 use Rattle.ctr_record_laws.proofs.Xids.{among_in}
-use Rattle.ctr_rec.specs.declared.record.SlogItem.{SlogItem}
-use Rattle.ctr_rec.specs.declared.record.SlogItem.TheVariants.{AllocOf, FreeOf, CreateOf, DropOf}
+use Rattle.ctr_area.specs.rec_SlogItem.{SlogItem}
+use Rattle.ctr_area.specs.rec_SlogItem.TheVariants.{AllocOf, FreeOf, CreateOf, DropOf}
 use Rattle.ctr_record_laws.proofs.Items.{up_one, down_one, IsWithOne}
 use Rattle.ctr_record_laws.proofs.Named.{kind_of_item}
 use Rattle.ctr_record_laws.proofs.Owning.{all_of, others_sound, owned_with, owned_either, owned_more}
 use Rattle.ctr_record_laws.proofs.Undone.{undone_last, filter_apart, filter_there, filter_append, filter_among, among_filter, drop_last, last_or_again}
-use Rattle.ctr_versions.proofs.Keys.{known}
+use Rattle.ctr_area.proofs.ctr_versions.Keys.{known}
 
 -- what an item says of itself
 abbrev pub entry_of_item : SlogItem → ℕ

@@ -7,13 +7,13 @@ use Rattle.ctr_area.specs.Areas.{Title, RowVersion, Area}
 use Rattle.ctr_area.specs.Chains.{chain_of}
 use Rattle.ctr_area.specs.Images.{is_standing, is_live}
 use Rattle.ctr_area.specs.Sound.{IsAmong, AreAllOnce, xids_in, AreBehind, AreNamed, IsSchemaItem, all_undone, stands_for}
-use Rattle.ctr_meta.specs.Items.{is_item_by}
-use Rattle.ctr_meta.specs.Tables.{without_xid}
+use Rattle.ctr_area.specs.meta_Items.{is_item_by}
+use Rattle.ctr_area.specs.meta_Tables.{without_xid}
 use Rattle.ctr_record_laws.proofs.Members.{among_parts, all_each}
-use Rattle.ctr_rec.specs.declared.record.SlogItem.{SlogItem}
-use Rattle.ctr_rec.specs.declared.record.SlogItem.TheVariants.{AllocOf, FreeOf, CreateOf, DropOf}
+use Rattle.ctr_area.specs.rec_SlogItem.{SlogItem}
+use Rattle.ctr_area.specs.rec_SlogItem.TheVariants.{AllocOf, FreeOf, CreateOf, DropOf}
 use Rattle.ctr_record_laws.proofs.Undone.{undone_dead, one_of_from}
-use Rattle.ctr_versions.proofs.Keys.{known}
+use Rattle.ctr_area.proofs.ctr_versions.Keys.{known}
 
 -- ---- a list without one of its members
 

@@ -8,15 +8,15 @@ use Rattle.ctr_area.specs.Chains.{pages_bound, pages_from, places_on, places_fro
 use Rattle.ctr_area.specs.Changes.{with_firsts, with_bucket}
 use Rattle.ctr_area.specs.Images.{is_committed_in}
 use Rattle.ctr_area.specs.Sound.{IsAmong, how_many, xids_in, IsOfRows, IsOfVersions, is_headed_by, page_of_item, owned_pages, IsSoundArea}
-use Rattle.ctr_meta.specs.Effects.{without_item}
-use Rattle.ctr_meta.specs.Items.{is_wanted, left_out}
-use Rattle.ctr_meta.specs.Tables.{Tables}
-use Rattle.ctr_meta.specs.declared.items.Wanted.TheVariants.{Allocation}
+use Rattle.ctr_area.specs.meta_Effects.{without_item}
+use Rattle.ctr_area.specs.meta_Items.{is_wanted, left_out}
+use Rattle.ctr_area.specs.meta_Tables.{Tables}
+use Rattle.ctr_area.specs.meta_Wanted.TheVariants.{Allocation}
 use Rattle.ctr_record_laws.proofs.Members.{among_rest, among_parts, on_page, count_append, bit}
 use Rattle.ctr_record_laws.specs.Bounds.{IsInBounds}
-use Rattle.ctr_page.specs.declared.header.Header.{Header}
-use Rattle.ctr_rec.specs.declared.record.SlogItem.{SlogItem}
-use Rattle.ctr_rec.specs.declared.record.SlogItem.TheVariants.{AllocOf}
+use Rattle.ctr_area.specs.ctr_page.declared.header.Header.{Header}
+use Rattle.ctr_area.specs.rec_SlogItem.{SlogItem}
+use Rattle.ctr_area.specs.rec_SlogItem.TheVariants.{AllocOf}
 use Rattle.ctr_record_laws.proofs.Ends.{front_chain, front_ends, front_places, set_count, set_among, one_among, bucket_chain, buckets_with}
 use Rattle.ctr_record_laws.proofs.Few.{item_fine, short_bucket, short_versions}
 use Rattle.ctr_record_laws.proofs.Firsts.{firsts_readable, firsts_behind, firsts_keys, firsts_pointers, firsts_below, firsts_counts, pages_of_firsts, owned_moved, firsts_owned, AreGoodFirsts}

@@ -5,14 +5,14 @@ use Rattle.ctr_area.specs.Areas.{nowhere, Slot, Older, Area}
 use Rattle.ctr_area.specs.Chains.{older_bound, places_along}
 use Rattle.ctr_area.specs.Changes.{with_slot}
 use Rattle.ctr_area.specs.Sound.{IsAmong, IsUsedSlot, IsKeptFor, along, ArePointed, IsSoundArea}
-use Rattle.ctr_meta.specs.Tables.{Tables}
+use Rattle.ctr_area.specs.meta_Tables.{Tables}
 use Rattle.ctr_record_laws.proofs.Along.{ends_at, goes_on, all_along}
 use Rattle.ctr_record_laws.proofs.CutLaw.{cut_along, first_among}
 use Rattle.ctr_record_laws.proofs.Kept.{older_apart}
 use Rattle.ctr_record_laws.proofs.OneSlot.{place_cases, slot_here, slot_apart, was_used, now_used}
 use Rattle.ctr_record_laws.proofs.Room.{bound_suc}
 use Rattle.ctr_record_laws.specs.Owed.{IsSpareCopy, ToKept, reverted_slot, OwedByRevert, reverted_at, Trimming, CutHead, CutPrevious, FreeTombstone, trimmed_slot, OwedByTrim, trimmed_at, OwedByCut, cut_at, IsInNoChain}
-use Rattle.ctr_page.specs.declared.rows.Place.{Place}
+use Rattle.ctr_area.specs.ctr_page.declared.rows.Place.{Place}
 use Rattle.ctr_record_laws.proofs.Ways.{not_behind, behind_along, cut_off}
 use Rattle.ctr_record_laws.specs.Loose.{IsLoose, behind_entry}
 

@@ -3,12 +3,12 @@ use Rattle.std.proofs.Common.{◌≡◌, ◌⊎◌, ⊎_elim, inl, inr, ℕ, ◌
 use Rattle.std.specs.List.{filter}
 use Rattle.ctr_area.specs.Areas.{Title}
 use Rattle.ctr_area.specs.Sound.{IsAmong, how_many, AreNamed, IsOneOf, IsSchemaItem, all_undone, undone, stands_for, is_creation, is_dropping}
-use Rattle.ctr_meta.specs.Items.{is_item_by}
+use Rattle.ctr_area.specs.meta_Items.{is_item_by}
 use Rattle.ctr_record_laws.proofs.Members.{bit}
-use Rattle.ctr_rec.specs.declared.record.SlogItem.{SlogItem}
-use Rattle.ctr_rec.specs.declared.record.SlogItem.TheVariants.{AllocOf, FreeOf, CreateOf, DropOf}
+use Rattle.ctr_area.specs.rec_SlogItem.{SlogItem}
+use Rattle.ctr_area.specs.rec_SlogItem.TheVariants.{AllocOf, FreeOf, CreateOf, DropOf}
 use Rattle.ctr_record_laws.proofs.Items.{with_one, or_the_one, count_with, IsWithOne}
-use Rattle.ctr_versions.proofs.Keys.{known}
+use Rattle.ctr_area.proofs.ctr_versions.Keys.{known}
 
 -- an item of no entry of the catalog
 pub record IsOfPage (i : SlogItem) : Type 0 where

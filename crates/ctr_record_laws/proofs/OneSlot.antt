@@ -5,8 +5,8 @@ use Rattle.ctr_area.proofs.Places.{same_place_is, same_place_itself}
 use Rattle.ctr_area.specs.Areas.{same_place, Slot, Area}
 use Rattle.ctr_area.specs.Changes.{with_slot}
 use Rattle.ctr_area.specs.Sound.{IsUsedSlot}
-use Rattle.ctr_page.specs.declared.rows.Place.{Place}
-use Rattle.ctr_versions.proofs.Keys.{known}
+use Rattle.ctr_area.specs.ctr_page.declared.rows.Place.{Place}
+use Rattle.ctr_area.proofs.ctr_versions.Keys.{known}
 
 pub other_place : (a b : Place) → (a ≡ b → ⊥) → same_place a b ≡ false
 other_place a b apart = known (same_place a b) (λ is. absurd (apart (same_place_is a b is))) (λ is. is)

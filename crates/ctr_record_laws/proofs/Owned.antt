@@ -11,9 +11,9 @@ use Rattle.ctr_area.specs.Images.{numbers, entry_numbers}
 use Rattle.ctr_area.specs.Sound.{IsAmong, how_many, page_of_item, owned_pages, AreOwned}
 use Rattle.ctr_record_laws.proofs.Members.{among_front, among_rest, among_parts, among_flat, on_page, StandsOnce, once_apart, once_rest, once_front, once_behind, count_append, count_among, once_counted}
 use Rattle.ctr_record_laws.specs.Bounds.{IsInBounds}
-use Rattle.ctr_page.specs.declared.rows.Place.{Place}
-use Rattle.ctr_rec.specs.declared.record.SlogItem.{SlogItem}
-use Rattle.ctr_versions.proofs.Keys.{known}
+use Rattle.ctr_area.specs.ctr_page.declared.rows.Place.{Place}
+use Rattle.ctr_area.specs.rec_SlogItem.{SlogItem}
+use Rattle.ctr_area.proofs.ctr_versions.Keys.{known}
 
 -- the slots of all tables
 abbrev pub all_slots : Area → List Place

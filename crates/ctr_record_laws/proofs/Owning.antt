@@ -10,19 +10,19 @@ use Rattle.ctr_area.specs.Chains.{table_pages}
 use Rattle.ctr_area.specs.Changes.{with_taken}
 use Rattle.ctr_area.specs.Images.{is_committed_in, entry_numbers}
 use Rattle.ctr_area.specs.Sound.{IsAmong, how_many, xids_in, page_of_item, owned_pages, AreOwned, AreNamed, IsSoundArea}
-use Rattle.ctr_meta.specs.Effects.{with_item, without_item}
-use Rattle.ctr_meta.specs.Items.{is_wanted, left_out}
-use Rattle.ctr_meta.specs.Tables.{Tables}
-use Rattle.ctr_meta.specs.declared.items.Wanted.TheVariants.{OfPage}
+use Rattle.ctr_area.specs.meta_Effects.{with_item, without_item}
+use Rattle.ctr_area.specs.meta_Items.{is_wanted, left_out}
+use Rattle.ctr_area.specs.meta_Tables.{Tables}
+use Rattle.ctr_area.specs.meta_Wanted.TheVariants.{OfPage}
 use Rattle.ctr_record_laws.proofs.Heads.{turn}
 use Rattle.ctr_record_laws.proofs.Members.{among_front, among_rest, among_parts, among_flat, count_append, count_among, bit}
 use Rattle.ctr_record_laws.proofs.Xids.{in_among}
-use Rattle.ctr_rec.specs.declared.record.SlogItem.{SlogItem}
-use Rattle.ctr_rec.specs.declared.record.SlogItem.TheVariants.{AllocOf, FreeOf, CreateOf, DropOf}
+use Rattle.ctr_area.specs.rec_SlogItem.{SlogItem}
+use Rattle.ctr_area.specs.rec_SlogItem.TheVariants.{AllocOf, FreeOf, CreateOf, DropOf}
 use Rattle.ctr_record_laws.proofs.Items.{with_one, or_the_one, the_one, pages_with, added, taken_out, IsWithOne}
 use Rattle.ctr_record_laws.proofs.Named.{alloc_of_page, free_of_page, named_same, longer_same, shorter_same, items_up, items_down, IsOfPage}
 use Rattle.ctr_record_laws.specs.Owed.{OwedByAlloc, OwedByFree}
-use Rattle.ctr_versions.proofs.Keys.{known}
+use Rattle.ctr_area.proofs.ctr_versions.Keys.{known}
 
 pub all_of : {A : Type 0} (P : A → Type 0) (xs : List A) → ((x : A) → IsAmong x xs → P x) → AllByRecursion P xs
 all_of P [] each = tt

@@ -5,7 +5,7 @@ use Rattle.ctr_area.specs.Chains.{older_bound, slot_places, places_along, Leads}
 use Rattle.ctr_area.specs.Changes.{with_slot}
 use Rattle.ctr_area.specs.Sound.{IsAmong, IsUsedSlot, IsKeptFor, along, ArePointed}
 use Rattle.ctr_record_laws.proofs.OneSlot.{place_cases, slot_here, slot_apart, was_used, now_used}
-use Rattle.ctr_page.specs.declared.rows.Place.{Place}
+use Rattle.ctr_area.specs.ctr_page.declared.rows.Place.{Place}
 
 -- One slot is changed: the new pointer leads on as it must, and what it leads to is in no chain of another slot
 module _ (area : Area) (e : ℕ) (at : Place) (s : Slot) (pointers : ArePointed area) (here : (f : ℕ) → IsAmong at (slot_places area f) → f ≡ e)

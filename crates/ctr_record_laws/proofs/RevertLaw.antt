@@ -6,8 +6,8 @@ use Rattle.ctr_area.specs.Areas.{nowhere, RowVersion, Slot, Older, Area}
 use Rattle.ctr_area.specs.Chains.{older_bound, places_along, if_any, chain_of, Leads}
 use Rattle.ctr_area.specs.Images.{is_committed_in, versions_in}
 use Rattle.ctr_area.specs.Sound.{IsAmong, AreAllOnce, xids_in, head_count, IsKeptFor, along, PreviousBelow, IsSoundArea}
-use Rattle.ctr_meta.specs.Effects.{one_aborted_less}
-use Rattle.ctr_meta.specs.Tables.{Tables, is_in}
+use Rattle.ctr_area.specs.meta_Effects.{one_aborted_less}
+use Rattle.ctr_area.specs.meta_Tables.{Tables, is_in}
 use Rattle.ctr_record_laws.proofs.Along.{versions_at, ends_at, goes_on, more_along}
 use Rattle.ctr_record_laws.proofs.Cleaned.{AreGood, cleaned_set, cleaned_was, IsFine, cleaned_sound, head_falls, committed_some}
 use Rattle.ctr_record_laws.proofs.Heads.{never_both, listed_open, counted_by, counts_tell}
@@ -17,11 +17,11 @@ use Rattle.ctr_record_laws.proofs.Writes.{behind_pointer}
 use Rattle.ctr_record_laws.proofs.Xids.{lowered, retold, aborted_less_same}
 use Rattle.ctr_record_laws.specs.Bounds.{IsInBounds}
 use Rattle.ctr_record_laws.specs.Owed.{Reverting, ToPrevious, ToKept, ToNothing, reverted_slot, FitsReverting, OwedByRevert, reverted_at, AgreeOnCommits}
-use Rattle.ctr_page.specs.declared.rows.Place.{Place}
-use Rattle.ctr_versions.proofs.Keys.{known}
-use Rattle.ctr_versions.specs.Chains.{Numbers}
-use Rattle.ctr_versions.specs.Changes.{revert}
-use Rattle.ctr_versions.specs.Versions.{rows_of, RowsSet}
+use Rattle.ctr_area.specs.ctr_page.declared.rows.Place.{Place}
+use Rattle.ctr_area.proofs.ctr_versions.Keys.{known}
+use Rattle.ctr_area.specs.versions_Chains.{Numbers}
+use Rattle.ctr_area.specs.versions_Changes.{revert}
+use Rattle.ctr_area.specs.versions_Versions.{rows_of, RowsSet}
 
 module _ (counted : ℕ) (tables : Tables) (area : Area) (e : ℕ) (at : Place) (way : Reverting) (bounds : IsInBounds area) (sound : IsSoundArea counted tables area)
     (owed : OwedByRevert tables area e at way) where

@@ -8,9 +8,9 @@ use Rattle.ctr_area.specs.Areas.{Older, Area}
 use Rattle.ctr_area.specs.Chains.{pages_bound, older_bound, pages_from, places_on, older_places, places_along, Leads}
 use Rattle.ctr_area.specs.Sound.{IsAmong}
 use Rattle.ctr_record_laws.proofs.Along.{ends_at, goes_on, all_along, more_along, leads_more}
-use Rattle.ctr_page.specs.declared.header.Header.{Header}
-use Rattle.ctr_page.specs.declared.rows.Place.{Place}
-use Rattle.ctr_versions.proofs.Keys.{known}
+use Rattle.ctr_area.specs.ctr_page.declared.header.Header.{Header}
+use Rattle.ctr_area.specs.ctr_page.declared.rows.Place.{Place}
+use Rattle.ctr_area.proofs.ctr_versions.Keys.{known}
 
 -- ---- lists without a member twice
 

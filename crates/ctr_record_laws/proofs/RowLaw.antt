@@ -7,8 +7,8 @@ use Rattle.ctr_area.specs.Areas.{RowVersion, Slot, Area}
 use Rattle.ctr_area.specs.Chains.{older_bound, slot_places, chain_of, Leads}
 use Rattle.ctr_area.specs.Images.{is_committed_in, versions_in}
 use Rattle.ctr_area.specs.Sound.{IsAmong, xids_in, IsUsedSlot, AreBehind, AreKeyed, IsKeptFor, ArePointed, PreviousBelow, NumbersBelow, IsSoundArea}
-use Rattle.ctr_meta.specs.Effects.{one_head_more}
-use Rattle.ctr_meta.specs.Tables.{Tables}
+use Rattle.ctr_area.specs.meta_Effects.{one_head_more}
+use Rattle.ctr_area.specs.meta_Tables.{Tables}
 use Rattle.ctr_record_laws.proofs.Fitting.{fitting, place_of, old_key, alone, of_its_bucket, now_in_use, of_the_key, has_head, previous_below}
 use Rattle.ctr_record_laws.proofs.Heads.{listed_drawn, row_counts}
 use Rattle.ctr_record_laws.proofs.OneSlot.{place_cases, slot_here, slot_apart, was_used}
@@ -20,12 +20,12 @@ use Rattle.ctr_record_laws.proofs.Written.{chain_before, is_write, new_leads, ne
 use Rattle.ctr_record_laws.proofs.Xids.{more_same, less_same, both_same, carried}
 use Rattle.ctr_record_laws.specs.Bounds.{IsInBounds}
 use Rattle.ctr_record_laws.specs.Owed.{RowMove, slot_by, row_moved, loses_head, row_counted, IsSlotOfKey, IsRoomFor, OwedByRow, AgreeOnCommits}
-use Rattle.ctr_page.specs.Places.{bucket_of}
-use Rattle.ctr_page.specs.declared.rows.Place.{Place}
-use Rattle.ctr_versions.proofs.Keys.{known}
-use Rattle.ctr_versions.specs.Chains.{Numbers}
-use Rattle.ctr_versions.specs.Changes.{write}
-use Rattle.ctr_versions.specs.Versions.{rows_of, RowsSet}
+use Rattle.ctr_area.specs.ctr_page.Places.{bucket_of}
+use Rattle.ctr_area.specs.ctr_page.declared.rows.Place.{Place}
+use Rattle.ctr_area.proofs.ctr_versions.Keys.{known}
+use Rattle.ctr_area.specs.versions_Chains.{Numbers}
+use Rattle.ctr_area.specs.versions_Changes.{write}
+use Rattle.ctr_area.specs.versions_Versions.{rows_of, RowsSet}
 
 module _ (counted : ℕ) (tables : Tables) (area : Area) (m : RowMove) (bounds : IsInBounds area) (sound : IsSoundArea counted tables area) (owed : OwedByRow tables area m) where
   abbrev committed : ℕ → Bool

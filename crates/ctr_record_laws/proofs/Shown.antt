@@ -10,16 +10,16 @@ use Rattle.ctr_area.specs.Chains.{pages_bound, pages_from, places_on, places_fro
 use Rattle.ctr_area.specs.Changes.{with_firsts, with_bucket, with_taken, with_blank}
 use Rattle.ctr_area.specs.Images.{rows_gathered, rows_of_entry, entry_numbers, tables_standing, names_gathered, name_chain, all_numbered, is_standing}
 use Rattle.ctr_area.specs.Sound.{IsAmong, IsSoundArea}
-use Rattle.ctr_meta.specs.Effects.{with_item}
-use Rattle.ctr_meta.specs.Items.{is_item_by}
-use Rattle.ctr_meta.specs.Tables.{Tables}
-use Rattle.ctr_meta.specs.declared.items.Wanted.TheVariants.{Allocation, OfPage}
-use Rattle.ctr_model.specs.Database.{name_cmp}
+use Rattle.ctr_area.specs.meta_Effects.{with_item}
+use Rattle.ctr_area.specs.meta_Items.{is_item_by}
+use Rattle.ctr_area.specs.meta_Tables.{Tables}
+use Rattle.ctr_area.specs.meta_Wanted.TheVariants.{Allocation, OfPage}
+use Rattle.ctr_area.specs.model_Database.{name_cmp}
 use Rattle.ctr_record_laws.proofs.Members.{among_front, on_page}
 use Rattle.ctr_record_laws.specs.Bounds.{IsInBounds}
-use Rattle.ctr_page.specs.declared.header.Header.{Header}
-use Rattle.ctr_page.specs.declared.rows.Place.{Place}
-use Rattle.ctr_rec.specs.declared.record.SlogItem.TheVariants.{AllocOf, FreeOf, CreateOf, DropOf}
+use Rattle.ctr_area.specs.ctr_page.declared.header.Header.{Header}
+use Rattle.ctr_area.specs.ctr_page.declared.rows.Place.{Place}
+use Rattle.ctr_area.specs.rec_SlogItem.TheVariants.{AllocOf, FreeOf, CreateOf, DropOf}
 use Rattle.ctr_record_laws.proofs.Away.{away_chain, place_on_chains, slot_places_same, IsSameOn}
 use Rattle.ctr_record_laws.proofs.Ends.{front_places}
 use Rattle.ctr_record_laws.proofs.Firsts.{by_entry}
@@ -29,8 +29,8 @@ use Rattle.ctr_record_laws.proofs.Links.{bucket_inside, bucket_front}
 use Rattle.ctr_record_laws.proofs.Undone.{filter_there}
 use Rattle.ctr_record_laws.specs.Owed.{OwedByFree, OwedByFormat, IsEmptyPage, rows_header, versions_header, first_page, OwedByLink, OwedByOlderLink, OwedByUncreate, OwedByUndrop}
 use Rattle.ctr_record_laws.specs.Shows.{ShowTheSame}
-use Rattle.ctr_versions.proofs.Keys.{known}
-use Rattle.ctr_versions.specs.Listing.{entries_seen}
+use Rattle.ctr_area.proofs.ctr_versions.Keys.{known}
+use Rattle.ctr_area.specs.versions_Listing.{entries_seen}
 
 module _ (old new : Area) (titles : (f : ℕ) → new.title f ≡ old.title f) (rows : (f : ℕ) → rows_of_entry new f ≡ rows_of_entry old f) where
   tables_same : (committed : ℕ → Bool) (es : List ℕ) → tables_standing committed new es ≡ tables_standing committed old es

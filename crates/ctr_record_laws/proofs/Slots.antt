@@ -13,9 +13,9 @@ use Rattle.ctr_area.specs.Sound.{IsAmong}
 use Rattle.ctr_record_laws.proofs.Fitting.{alone}
 use Rattle.ctr_record_laws.proofs.Gathering.{matches, is_match, match_used, match_key, sorted-gathered, found_here, none_found, same_found, numbered_past, numbered_here}
 use Rattle.ctr_record_laws.proofs.OneSlot.{slot_here, slot_apart}
-use Rattle.ctr_page.specs.declared.rows.Place.{Place}
-use Rattle.ctr_versions.proofs.Keys.{known}
-use Rattle.ctr_versions.specs.Versions.{slots_of, rows_of, is_slot, RowsSet}
+use Rattle.ctr_area.specs.ctr_page.declared.rows.Place.{Place}
+use Rattle.ctr_area.proofs.ctr_versions.Keys.{known}
+use Rattle.ctr_area.specs.versions_Versions.{slots_of, rows_of, is_slot, RowsSet}
 
 -- ---- the rows of a table
 

@@ -6,13 +6,13 @@ use Rattle.ctr_area.specs.Chains.{older_bound, older_places, places_along}
 use Rattle.ctr_area.specs.Changes.{with_slot, with_older, with_title, with_taken}
 use Rattle.ctr_area.specs.Images.{is_committed_in}
 use Rattle.ctr_area.specs.Sound.{IsAmong, IsUsedSlot, IsKeptFor, along, IsSoundArea}
-use Rattle.ctr_meta.specs.Tables.{Tables}
+use Rattle.ctr_area.specs.meta_Tables.{Tables}
 use Rattle.ctr_record_laws.proofs.Along.{ends_at, goes_on}
 use Rattle.ctr_record_laws.proofs.CutLaw.{away_along}
 use Rattle.ctr_record_laws.proofs.Kept.{older_apart, kept_along}
 use Rattle.ctr_record_laws.proofs.Room.{bound_suc}
 use Rattle.ctr_record_laws.specs.Owed.{OwedByKeep, older_copy, IsSpareCopy, Reverting, ToPrevious, ToKept, ToNothing, reverted_slot, FitsReverting, OwedByRevert, reverted_at, Writing, OverHead, HeadMoves, PreviousKept, HeadKept, FirstVersion, written_slot, RowMove, slot_by, row_moved, FitsWriting, OwedByRow, Trimming, trimmed_slot, trimmed_at, OwedByCut, cut_at, IsInNoChain}
-use Rattle.ctr_page.specs.declared.rows.Place.{Place}
+use Rattle.ctr_area.specs.ctr_page.declared.rows.Place.{Place}
 use Rattle.ctr_record_laws.proofs.Loosened.{slot_unlinked, trimmed_out, on_way, cut_stays_out}
 use Rattle.ctr_record_laws.proofs.Ways.{some_step, fewer_along, behind_along}
 use Rattle.ctr_record_laws.specs.Loose.{IsLoose, Links, IsSpareFor}

@@ -5,12 +5,12 @@ use Rattle.ctr_area.specs.Areas.{Title, Firsts, Slot, Area}
 use Rattle.ctr_area.specs.Chains.{pages_bound, places_on, places_from, slot_places}
 use Rattle.ctr_area.specs.Changes.{with_slot, with_blank, with_firsts, with_bucket, ChangesEntry}
 use Rattle.ctr_area.specs.Sound.{IsAmong, IsUsedSlot, IsSoundArea}
-use Rattle.ctr_meta.specs.Tables.{Tables}
+use Rattle.ctr_area.specs.meta_Tables.{Tables}
 use Rattle.ctr_record_laws.proofs.Members.{among_front, among_rest, among_parts}
 use Rattle.ctr_record_laws.proofs.OneSlot.{slot_apart}
 use Rattle.ctr_record_laws.specs.Bounds.{IsInBounds}
-use Rattle.ctr_page.specs.declared.header.Header.{Header}
-use Rattle.ctr_page.specs.declared.rows.Place.{Place}
+use Rattle.ctr_area.specs.ctr_page.declared.header.Header.{Header}
+use Rattle.ctr_area.specs.ctr_page.declared.rows.Place.{Place}
 use Rattle.ctr_record_laws.proofs.Away.{slot_places_same}
 use Rattle.ctr_record_laws.proofs.Ends.{front_places}
 use Rattle.ctr_record_laws.proofs.Firsts.{by_entry}

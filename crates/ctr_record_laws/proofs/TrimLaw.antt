@@ -6,7 +6,7 @@ use Rattle.ctr_area.specs.Areas.{nowhere, RowVersion, Slot, Older, Area}
 use Rattle.ctr_area.specs.Chains.{older_bound, places_along, if_any, chain_of, Leads}
 use Rattle.ctr_area.specs.Images.{is_committed_in, versions_in}
 use Rattle.ctr_area.specs.Sound.{IsAmong, head_count, IsKeptFor, PreviousBelow, IsSoundArea}
-use Rattle.ctr_meta.specs.Tables.{Tables, is_in}
+use Rattle.ctr_area.specs.meta_Tables.{Tables, is_in}
 use Rattle.ctr_record_laws.proofs.Along.{ends_at}
 use Rattle.ctr_record_laws.proofs.Cleaned.{AreGood, cleaned_set, cleaned_was, IsFine, cleaned_sound, head_stays}
 use Rattle.ctr_record_laws.proofs.Heads.{listed_open, counted_by, counts_tell}
@@ -15,9 +15,9 @@ use Rattle.ctr_record_laws.proofs.Writes.{behind_pointer, nothing_behind}
 use Rattle.ctr_record_laws.proofs.Xids.{retold}
 use Rattle.ctr_record_laws.specs.Bounds.{IsInBounds}
 use Rattle.ctr_record_laws.specs.Owed.{Trimming, CutHead, CutPrevious, FreeTombstone, trimmed_slot, trimmed_chain, FitsTrimming, IsCut, OwedByTrim, trimmed_at}
-use Rattle.ctr_page.specs.declared.rows.Place.{Place}
-use Rattle.ctr_versions.specs.Changes.{cut, without_tombstone}
-use Rattle.ctr_versions.specs.Versions.{rows_of, RowsSet}
+use Rattle.ctr_area.specs.ctr_page.declared.rows.Place.{Place}
+use Rattle.ctr_area.specs.versions_Changes.{cut, without_tombstone}
+use Rattle.ctr_area.specs.versions_Versions.{rows_of, RowsSet}
 
 module _ (passes : ℕ → Bool) (counted : ℕ) (tables : Tables) (area : Area) (e : ℕ) (at : Place) (way : Trimming) (bounds : IsInBounds area) (sound : IsSoundArea counted tables area)
     (owed : OwedByTrim passes tables area e at way) where

@@ -7,19 +7,19 @@ use Rattle.ctr_area.specs.Areas.{Title, Area}
 use Rattle.ctr_area.specs.Changes.{with_title}
 use Rattle.ctr_area.specs.Images.{is_committed_in, is_standing, is_live}
 use Rattle.ctr_area.specs.Sound.{IsAmong, how_many, xids_in, AreNamed, IsSoundArea, IsOneOf, IsSchemaItem, all_undone, stands_for, is_creation, is_dropping}
-use Rattle.ctr_meta.specs.Effects.{without_item}
-use Rattle.ctr_meta.specs.Items.{is_wanted, is_item_by, left_out}
-use Rattle.ctr_meta.specs.Tables.{Tables}
-use Rattle.ctr_meta.specs.declared.items.Wanted.TheVariants.{Creation}
+use Rattle.ctr_area.specs.meta_Effects.{without_item}
+use Rattle.ctr_area.specs.meta_Items.{is_wanted, is_item_by, left_out}
+use Rattle.ctr_area.specs.meta_Tables.{Tables}
+use Rattle.ctr_area.specs.meta_Wanted.TheVariants.{Creation}
 use Rattle.ctr_record_laws.proofs.Members.{among_parts, bit}
-use Rattle.ctr_rec.specs.declared.record.SlogItem.{SlogItem}
-use Rattle.ctr_rec.specs.declared.record.SlogItem.TheVariants.{AllocOf, FreeOf, CreateOf, DropOf}
+use Rattle.ctr_area.specs.rec_SlogItem.{SlogItem}
+use Rattle.ctr_area.specs.rec_SlogItem.TheVariants.{AllocOf, FreeOf, CreateOf, DropOf}
 use Rattle.ctr_record_laws.proofs.Items.{the_one, taken_out, up_one, down_one, count_one, it_is_in, any_there, IsWithOne}
 use Rattle.ctr_record_laws.proofs.Latest.{entry_of_item, create_isnt_drop, none_later, own_undone, others_same, owned_less, by_title, title_apart, titled_sound, live_below}
 use Rattle.ctr_record_laws.proofs.Named.{cut_with}
 use Rattle.ctr_record_laws.proofs.Undone.{undone_at, undone_dead, one_of_from, filter_among, counted_member}
 use Rattle.ctr_record_laws.specs.Owed.{OwedByUncreate}
-use Rattle.ctr_versions.proofs.Keys.{known}
+use Rattle.ctr_area.proofs.ctr_versions.Keys.{known}
 
 module _ (counted : ℕ) (tables : Tables) (area : Area) (x e : ℕ) (sound : IsSoundArea counted tables area) (owed : OwedByUncreate tables x e) where
   abbrev items : List SlogItem

@@ -5,9 +5,9 @@ use Rattle.ctr_area.specs.Areas.{RowVersion, Older, Area}
 use Rattle.ctr_area.specs.Chains.{pages_bound, pages_from, older_places}
 use Rattle.ctr_area.specs.Images.{is_committed_in}
 use Rattle.ctr_area.specs.Sound.{IsAmong, IsUsedSlot, IsOfVersions, AreReadable, IsSoundArea}
-use Rattle.ctr_meta.specs.Tables.{Tables}
+use Rattle.ctr_area.specs.meta_Tables.{Tables}
 use Rattle.ctr_record_laws.specs.Owed.{Writing, OverHead, HeadMoves, PreviousKept, HeadKept, FirstVersion, FitsWriting, RowMove, OwedByRow}
-use Rattle.ctr_page.specs.declared.rows.Place.{Place}
+use Rattle.ctr_area.specs.ctr_page.declared.rows.Place.{Place}
 use Rattle.ctr_record_laws.specs.Loose.{Links, IsSpareFor}
 
 -- a version entry is in the store of one table

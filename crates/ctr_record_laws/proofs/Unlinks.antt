@@ -9,15 +9,15 @@ use Rattle.ctr_area.specs.Chains.{pages_bound, pages_from, places_on, places_fro
 use Rattle.ctr_area.specs.Changes.{with_firsts, with_bucket}
 use Rattle.ctr_area.specs.Images.{is_committed_in}
 use Rattle.ctr_area.specs.Sound.{IsAmong, how_many, xids_in, IsUsedSlot, EndsIn, IsOfRows, IsOfVersions, is_headed_by, owned_pages, IsSoundArea}
-use Rattle.ctr_meta.proofs.XidLaws.{in_head, in_rest}
-use Rattle.ctr_meta.specs.Effects.{with_item}
-use Rattle.ctr_meta.specs.Tables.{Tables, is_in}
+use Rattle.ctr_area.proofs.meta_XidLaws.{in_head, in_rest}
+use Rattle.ctr_area.specs.meta_Effects.{with_item}
+use Rattle.ctr_area.specs.meta_Tables.{Tables, is_in}
 use Rattle.ctr_record_laws.proofs.Heads.{listed_open}
 use Rattle.ctr_record_laws.proofs.Members.{among_front, among_rest, among_parts, on_page, count_append, bit}
 use Rattle.ctr_record_laws.specs.Bounds.{IsInBounds}
-use Rattle.ctr_page.specs.declared.rows.Place.{Place}
-use Rattle.ctr_rec.specs.declared.record.SlogItem.{SlogItem}
-use Rattle.ctr_rec.specs.declared.record.SlogItem.TheVariants.{FreeOf}
+use Rattle.ctr_area.specs.ctr_page.declared.rows.Place.{Place}
+use Rattle.ctr_area.specs.rec_SlogItem.{SlogItem}
+use Rattle.ctr_area.specs.rec_SlogItem.TheVariants.{FreeOf}
 use Rattle.ctr_record_laws.proofs.Ends.{behind_chain, front_places, set_count, set_among, one_among, bucket_chain, buckets_with}
 use Rattle.ctr_record_laws.proofs.Firsts.{firsts_readable, firsts_behind, firsts_keys, firsts_pointers, firsts_below, firsts_counts, pages_of_firsts, owned_moved, firsts_owned, AreGoodFirsts}
 use Rattle.ctr_record_laws.proofs.Items.{or_the_one, added, IsWithOne}
@@ -25,7 +25,7 @@ use Rattle.ctr_record_laws.proofs.Links.{none_pass}
 use Rattle.ctr_record_laws.proofs.Named.{free_of_page, named_same, longer_same}
 use Rattle.ctr_record_laws.proofs.Owning.{owned_with}
 use Rattle.ctr_record_laws.specs.Owed.{first_page}
-use Rattle.ctr_versions.proofs.Keys.{known}
+use Rattle.ctr_area.proofs.ctr_versions.Keys.{known}
 
 pub above_zero : (p : ℕ) → 0 < p → p ≡ 0 → ⊥
 above_zero p lt is = omega (arith, lt, is)

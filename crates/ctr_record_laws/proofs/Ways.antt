@@ -8,7 +8,7 @@ use Rattle.ctr_record_laws.proofs.Along.{ends_at, goes_on, more_along, leads_mor
 use Rattle.ctr_record_laws.proofs.Kept.{older_apart, older_here}
 use Rattle.ctr_record_laws.proofs.OneSlot.{place_cases}
 use Rattle.ctr_record_laws.proofs.Room.{AreApart, along_apart}
-use Rattle.ctr_page.specs.declared.rows.Place.{Place}
+use Rattle.ctr_area.specs.ctr_page.declared.rows.Place.{Place}
 
 module _ (older : Place → Older) where
   -- a way that has a member begins somewhere, and goes on

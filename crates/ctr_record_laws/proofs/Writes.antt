@@ -6,11 +6,11 @@ use Rattle.ctr_area.specs.Areas.{nowhere, RowVersion, Slot, Older}
 use Rattle.ctr_area.specs.Chains.{older_bound, places_along, if_any, chain_of, Leads}
 use Rattle.ctr_record_laws.proofs.Along.{versions_at, ends_at, goes_on, more_along}
 use Rattle.ctr_record_laws.specs.Owed.{older_copy}
-use Rattle.ctr_page.specs.declared.rows.Place.{Place}
-use Rattle.ctr_types.specs.declared.value.Row.{Row}
-use Rattle.ctr_versions.proofs.Keys.{known}
-use Rattle.ctr_versions.specs.Chains.{Numbers}
-use Rattle.ctr_versions.specs.Changes.{write}
+use Rattle.ctr_area.specs.ctr_page.declared.rows.Place.{Place}
+use Rattle.ctr_area.specs.types_Row.{Row}
+use Rattle.ctr_area.proofs.ctr_versions.Keys.{known}
+use Rattle.ctr_area.specs.versions_Chains.{Numbers}
+use Rattle.ctr_area.specs.versions_Changes.{write}
 
 module _ (older : Place → Older) where
   -- the versions behind a pointer

@@ -9,9 +9,9 @@ use Rattle.ctr_record_laws.proofs.Along.{ends_at, goes_on, more_along, leads_sho
 use Rattle.ctr_record_laws.proofs.Room.{short_along, leads_to, bound_suc, pages_nonzero}
 use Rattle.ctr_record_laws.proofs.Writes.{behind_pointer, copy_along, over_head, head_moves, previous_kept, head_kept, nothing_behind}
 use Rattle.ctr_record_laws.specs.Owed.{IsSpareCopy, Writing, OverHead, HeadMoves, PreviousKept, HeadKept, FirstVersion, written_slot, IsSlotOfKey, FitsWriting}
-use Rattle.ctr_page.specs.declared.rows.Place.{Place}
-use Rattle.ctr_versions.specs.Chains.{Numbers}
-use Rattle.ctr_versions.specs.Changes.{write}
+use Rattle.ctr_area.specs.ctr_page.declared.rows.Place.{Place}
+use Rattle.ctr_area.specs.versions_Chains.{Numbers}
+use Rattle.ctr_area.specs.versions_Changes.{write}
 
 -- a version entry of a table isn't nowhere
 copy_somewhere : (area : Area) (e : ℕ) (q : Place) → IsAmong q (older_places area e) → q.page ≡ 0 → ⊥

@@ -7,11 +7,11 @@ use Rattle.std.specs.Prelude.{◌==◌, ◌&&◌, not, unwrap_or, is_some, nat_l
 use Rattle.ctr_area.specs.Areas.{Area}
 use Rattle.ctr_area.specs.Images.{is_committed_in}
 use Rattle.ctr_area.specs.Sound.{IsAmong, AreAllOnce, xids_in, AreReadable, AreBehind, AreCounted, AreOwned, AreKeyed, ArePointed, AreNamed, NumbersBelow, IsSoundArea}
-use Rattle.ctr_meta.proofs.XidLaws.{in_head, in_rest, in_first, heads_set, heads_other}
-use Rattle.ctr_meta.specs.Effects.{one_head_more, one_head_less, one_aborted_less}
-use Rattle.ctr_meta.specs.Tables.{Tables, is_in, heads_in, heads_at, with_heads}
+use Rattle.ctr_area.proofs.meta_XidLaws.{in_head, in_rest, in_first, heads_set, heads_other}
+use Rattle.ctr_area.specs.meta_Effects.{one_head_more, one_head_less, one_aborted_less}
+use Rattle.ctr_area.specs.meta_Tables.{Tables, is_in, heads_in, heads_at, with_heads}
 use Rattle.ctr_record_laws.proofs.Members.{among_front, among_rest, bit}
-use Rattle.ctr_versions.proofs.Keys.{known}
+use Rattle.ctr_area.proofs.ctr_versions.Keys.{known}
 
 -- ---- who is in a list
 

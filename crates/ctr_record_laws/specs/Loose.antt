@@ -1,7 +1,7 @@
 -- Version entries that no chain has: what a Keep leaves for a Row, and what a Revert or a Trim leaves
 -- for the cleaner.
 use Rattle.std.specs.Prelude.{◌≡◌, ℕ, true, List}
-use Rattle.ctr_page.specs.declared.rows.Place.{Place}
+use Rattle.ctr_area.specs.ctr_page.declared.rows.Place.{Place}
 use Rattle.ctr_area.specs.Areas.{RowVersion, Older, Area}
 use Rattle.ctr_area.specs.Chains.{older_bound, older_places, places_along}
 use Rattle.ctr_area.specs.Sound.{IsAmong, IsUsedSlot}

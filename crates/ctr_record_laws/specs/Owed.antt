@@ -1,23 +1,23 @@
 -- What each record owes: what holds of the tables and of the area before an engine logs it.
 use Rattle.std.specs.Prelude.{◌≡◌, ℕ, ◌<◌, true, false, ℤ, Bool, ◌&&◌, not, Option, Some, None, is_some, if◌then◌else◌, ◌≢◌, unwrap_or, ◌⊎◌, List, [], ◌∷◌, ◌≤◌, length, slice_index, ◌++◌}
-use Rattle.ctr_meta.specs.Tables.{Tables, is_in, heads_in}
-use Rattle.ctr_page.specs.declared.rows.Place.{Place}
+use Rattle.ctr_area.specs.meta_Tables.{Tables, is_in, heads_in}
+use Rattle.ctr_area.specs.ctr_page.declared.rows.Place.{Place}
 use Rattle.ctr_area.specs.Areas.{RowVersion, Slot, Older, Area, nowhere, free_slot, Title}
 use Rattle.ctr_area.specs.Chains.{older_places, places_from, bucket_first}
 use Rattle.ctr_area.specs.Sound.{IsAmong, IsUsedSlot, along, IsSchemaItem, stands_for}
-use Rattle.ctr_types.specs.declared.value.Row.{Row}
-use Rattle.ctr_versions.specs.Chains.{Numbers}
-use Rattle.ctr_meta.specs.Effects.{one_head_more, one_head_less}
+use Rattle.ctr_area.specs.types_Row.{Row}
+use Rattle.ctr_area.specs.versions_Chains.{Numbers}
+use Rattle.ctr_area.specs.meta_Effects.{one_head_more, one_head_less}
 use Rattle.ctr_area.specs.Images.{is_committed_in, is_live}
 use Rattle.ctr_area.specs.Changes.{with_slot, with_older}
-use Rattle.ctr_versions.specs.Changes.{cut, without_tombstone}
+use Rattle.ctr_area.specs.versions_Changes.{cut, without_tombstone}
 use Rattle.std.specs.List.{list_any, AllByRecursion, filter}
-use Rattle.ctr_meta.specs.declared.items.Wanted.{Wanted}
-use Rattle.ctr_meta.specs.declared.items.Wanted.TheVariants.{Allocation, OfPage}
-use Rattle.ctr_meta.specs.Items.{is_wanted, is_item_by}
-use Rattle.ctr_page.specs.declared.header.Header.{Header}
-use Rattle.ctr_rec.specs.declared.record.SlogItem.{SlogItem}
-use Rattle.ctr_rec.specs.declared.record.SlogItem.TheVariants.{CreateOf, DropOf, AllocOf}
+use Rattle.ctr_area.specs.meta_Wanted.{Wanted}
+use Rattle.ctr_area.specs.meta_Wanted.TheVariants.{Allocation, OfPage}
+use Rattle.ctr_area.specs.meta_Items.{is_wanted, is_item_by}
+use Rattle.ctr_area.specs.ctr_page.declared.header.Header.{Header}
+use Rattle.ctr_area.specs.rec_SlogItem.{SlogItem}
+use Rattle.ctr_area.specs.rec_SlogItem.TheVariants.{CreateOf, DropOf, AllocOf}
 
 -- What a Keep owes: the place is one of the table's versions and is free, and the version is by a
 -- transaction that was drawn.

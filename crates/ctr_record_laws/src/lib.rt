@@ -6,6 +6,10 @@ mod loose;
 mod shows;
 mod sound;
 
+pub use ctr_area::{
+    BadPage, CatalogEntry, EntryState, Meta, check_entry, is_changed, is_seen, make_entry,
+    read_entry,
+};
 pub use loose::{
     a_loose_entry_stays_loose, a_revert_leaves_its_entry, a_spare_copy_is_loose,
     a_spare_copy_stays_spare, a_trim_leaves_its_entries, records_elsewhere_leave_a_slot,

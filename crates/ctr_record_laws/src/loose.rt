@@ -1,16 +1,16 @@
 // Which records leave a version entry in no chain, and which leave it so; what stays of the slot that a copy waits for.
 ghost use Rattle.std.specs.Prelude.{ℕ, Bool, ◌≢◌, ◌≤◌, List};
-ghost use Rattle.ctr_meta.specs.Tables.{Tables};
-ghost use Rattle.ctr_page.specs.declared.rows.Place.{Place};
+ghost use Rattle.ctr_area.specs.meta_Tables.{Tables};
+ghost use Rattle.ctr_area.specs.ctr_page.declared.rows.Place.{Place};
 ghost use Rattle.ctr_area.specs.Areas.{Area, Older, free_older, RowVersion, Title, no_pages, Slot};
 ghost use Rattle.ctr_area.specs.Sound.{IsAmong, along, IsSoundArea, IsUsedSlot};
 ghost use Rattle.ctr_record_laws.specs.Owed.{ToKept, OwedByRevert, reverted_at, Trimming, OwedByTrim, trimmed_at, OwedByCut, cut_at, IsSpareCopy, OwedByKeep, RowMove, row_moved, OwedByRow, Reverting, IsInNoChain, OwedByFormat, OwedByLink, OwedByOlderLink, OwedByUnlink, OwedByOlderUnlink, OwedByCreate, OwedByFreeing, older_copy};
 ghost use Rattle.ctr_record_laws.specs.Loose.{IsLoose, behind_entry, Links, IsSpareFor, IsSameSlot};
 ghost use Rattle.ctr_area.specs.Changes.{with_older, with_taken, with_blank, with_firsts, with_bucket, with_title, new_title, empty_chains, ChangesEntry, with_slot};
-ghost use Rattle.ctr_page.specs.declared.header.Header.{Header};
+ghost use Rattle.ctr_area.specs.ctr_page.declared.header.Header.{Header};
 ghost use Rattle.ctr_area.specs.Chains.{pages_bound};
 ghost use Rattle.ctr_record_laws.specs.Bounds.{IsInBounds};
-ghost use Rattle.ctr_types.specs.declared.value.Column.{Column};
+ghost use Rattle.ctr_area.specs.types_Column.{Column};
 
 /// A Revert to the version that is kept where the pointer leads: its entry is used as it was, and in no chain
 /// afterwards; it is a spare copy of the new head.

@@ -1,7 +1,7 @@
 // What each record does to the chains of an area, and so to what is shown of it.
 ghost use Rattle.std.specs.Prelude.{◌≡◌, ◌≢◌, ◌<◌, ℕ, Bool, List, ◌≤◌, length};
-ghost use Rattle.ctr_meta.specs.Tables.{Tables};
-ghost use Rattle.ctr_page.specs.declared.rows.Place.{Place};
+ghost use Rattle.ctr_area.specs.meta_Tables.{Tables};
+ghost use Rattle.ctr_area.specs.ctr_page.declared.rows.Place.{Place};
 ghost use Rattle.ctr_area.specs.Areas.{RowVersion, Slot, Older, Area, free_older};
 ghost use Rattle.ctr_area.specs.Reading.{area_of};
 ghost use Rattle.ctr_area.specs.Chains.{pages_bound};
@@ -10,12 +10,12 @@ ghost use Rattle.ctr_area.specs.Sound.{IsSoundArea};
 ghost use Rattle.ctr_area.specs.Changes.{with_older, with_taken, with_blank, with_firsts, with_bucket};
 ghost use Rattle.ctr_record_laws.specs.Bounds.{IsInBounds};
 ghost use Rattle.ctr_record_laws.specs.Owed.{OwedByKeep, older_copy, IsSpareCopy, RowMove, row_moved, row_counted, OwedByRow, AgreeOnCommits, Reverting, FitsReverting, OwedByRevert, reverted_at, Trimming, trimmed_slot, trimmed_chain, OwedByTrim, trimmed_at, OwedByCut, cut_at, IsInNoChain, OwedByFree, OwedByFormat, rows_header, versions_header, first_page, OwedByLink, OwedByOlderLink, OwedByUncreate, OwedByUndrop};
-ghost use Rattle.ctr_versions.specs.Chains.{Numbers};
-ghost use Rattle.ctr_versions.specs.Changes.{write, revert, cut};
-ghost use Rattle.ctr_versions.specs.Versions.{rows_of, RowsSet};
-ghost use Rattle.ctr_meta.specs.Effects.{one_aborted_less, with_item};
-ghost use Rattle.ctr_rec.specs.declared.record.SlogItem.TheVariants.{AllocOf, FreeOf, CreateOf, DropOf};
-ghost use Rattle.ctr_page.specs.declared.header.Header.{Header};
+ghost use Rattle.ctr_area.specs.versions_Chains.{Numbers};
+ghost use Rattle.ctr_area.specs.versions_Changes.{write, revert, cut};
+ghost use Rattle.ctr_area.specs.versions_Versions.{rows_of, RowsSet};
+ghost use Rattle.ctr_area.specs.meta_Effects.{one_aborted_less, with_item};
+ghost use Rattle.ctr_area.specs.rec_SlogItem.TheVariants.{AllocOf, FreeOf, CreateOf, DropOf};
+ghost use Rattle.ctr_area.specs.ctr_page.declared.header.Header.{Header};
 ghost use Rattle.ctr_record_laws.specs.Shows.{ShowTheSame};
 
 /// The area of any pages has at most 32 tables, no page of a free entry, and at most 170 slots or version

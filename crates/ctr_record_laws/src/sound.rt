@@ -1,17 +1,17 @@
 // An area stays sound by each record on a whole page, on the catalog and on a transaction.
 ghost use Rattle.std.specs.Prelude.{◌≡◌, ◌≤◌, ◌∷◌, ℕ, Bool, true, false, List};
-ghost use Rattle.ctr_rec.specs.declared.record.SlogItem.TheVariants.{AllocOf, FreeOf, CreateOf, DropOf};
-ghost use Rattle.ctr_meta.specs.declared.items.Wanted.TheVariants.{Allocation, OfPage, Creation, Dropping};
-ghost use Rattle.ctr_meta.specs.Tables.{Tables, is_in};
-ghost use Rattle.ctr_meta.specs.Effects.{with_item, without_item, opened_by, committed, rolled_back, forgotten_by};
-ghost use Rattle.ctr_page.specs.declared.header.Header.{Header};
+ghost use Rattle.ctr_area.specs.rec_SlogItem.TheVariants.{AllocOf, FreeOf, CreateOf, DropOf};
+ghost use Rattle.ctr_area.specs.meta_Wanted.TheVariants.{Allocation, OfPage, Creation, Dropping};
+ghost use Rattle.ctr_area.specs.meta_Tables.{Tables, is_in};
+ghost use Rattle.ctr_area.specs.meta_Effects.{with_item, without_item, opened_by, committed, rolled_back, forgotten_by};
+ghost use Rattle.ctr_area.specs.ctr_page.declared.header.Header.{Header};
 ghost use Rattle.ctr_area.specs.Areas.{Area, Title, no_pages};
 ghost use Rattle.ctr_area.specs.Chains.{pages_bound, pages_from};
 ghost use Rattle.ctr_area.specs.Sound.{IsSoundArea};
 ghost use Rattle.ctr_area.specs.Changes.{with_taken, with_blank, with_firsts, with_bucket, with_title, new_title, empty_chains, ChangesEntry};
 ghost use Rattle.ctr_record_laws.specs.Bounds.{IsInBounds};
 ghost use Rattle.ctr_record_laws.specs.Owed.{OwedByAlloc, OwedByFree, OwedByFormat, first_page, OwedByLink, OwedByOlderLink, OwedByUnlink, OwedByOlderUnlink, OwedByUncreate, OwedByUndrop, OwedByDrop, OwedByCreate, OwedByDying, OwedByFreeing, OwedByAbort, OwedByCommit, OwedByBegin};
-ghost use Rattle.ctr_types.specs.declared.value.Column.{Column};
+ghost use Rattle.ctr_area.specs.types_Column.{Column};
 
 /// An Alloc: the area stays sound, with the tables in which the page is the transaction's to link or to give
 /// back.

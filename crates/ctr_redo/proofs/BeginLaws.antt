@@ -2,15 +2,15 @@
 use Rattle.std.proofs.Common.{◌≡◌, inl, inr, ℕ, zero, suc, ◌+◌, ◌<◌, true, List, [], ◌∷◌, ◌++◌, length, take, refl, sym, ◌∙◌, ap, subst, arith}
 use Rattle.std.proofs.Math.Seq.{take-nil}
 use Rattle.std.proofs.lemmas.List.{append-nil, append_cancel_left}
-use Rattle.ctr_home.specs.declared.root.Root.{Root}
-use Rattle.ctr_disk.specs.Image.{Image, content, OtherFilesStay}
+use Rattle.ctr_log.specs.home_Root.{Root}
+use Rattle.ctr_pool.specs.ctr_disk.Image.{Image, content, OtherFilesStay}
 use Rattle.ctr_log.specs.Logs.{Batches, records}
 use Rattle.ctr_log.specs.Reading.{log_file}
 use Rattle.ctr_log.specs.Kept.{log_in, kept_log, other_file, has_newer, HoldsLog, HoldsTwo, KeepsPrefix}
 use Rattle.ctr_log.proofs.KeptLaws.{log_in_is, holds_is}
 use Rattle.ctr_log.proofs.ForgetLaws.{some_records}
-use Rattle.ctr_rec.specs.declared.record.Record.{Record}
-use Rattle.ctr_rec.specs.Read.{record_in}
+use Rattle.ctr_meta.specs.rec_Record.{Record}
+use Rattle.ctr_meta.specs.rec_Read.{record_in}
 use Rattle.ctr_meta.specs.Tables.{no_tables}
 use Rattle.ctr_meta.specs.Effects.{effect, tables_of}
 use Rattle.ctr_redo.specs.Fitting.{EachFits, BeginsOnce, FilesBegin, TablesGoOn}

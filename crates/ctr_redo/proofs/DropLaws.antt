@@ -1,20 +1,20 @@
 -- The older of two generations goes: the root names the newer one, and the state is the same.
 use Rattle.std.proofs.Common.{◌≡◌, inl, inr, ℕ, zero, suc, ◌+◌, ◌<◌, ◌≤◌, ◌*◌, ◌^◌, true, List, [], ◌∷◌, ◌++◌, length, Some, sym, ◌∙◌, ap, subst, arith, length-append}
 use Rattle.std.proofs.lemmas.List.{map-append, length-map}
-use Rattle.ctr_types.specs.declared.file.File.{File}
-use Rattle.ctr_home.specs.declared.root.Root.{Root}
-use Rattle.ctr_disk.specs.Image.{Image, content}
-use Rattle.ctr_home.specs.declared.block.Block.TheVariants.{Root as RootBlock}
-use Rattle.ctr_home.specs.Blocks.{value_of}
-use Rattle.ctr_home.specs.Roots.{IsRoot, root_block}
-use Rattle.ctr_home.specs.Writing.{OthersStay, IsOldOrNewValue}
+use Rattle.ctr_log.specs.types_File.{File}
+use Rattle.ctr_log.specs.home_Root.{Root}
+use Rattle.ctr_pool.specs.ctr_disk.Image.{Image, content}
+use Rattle.ctr_log.specs.home_Block.TheVariants.{Root as RootBlock}
+use Rattle.ctr_log.specs.home_Blocks.{value_of}
+use Rattle.ctr_log.specs.home_Roots.{IsRoot, root_block}
+use Rattle.ctr_log.specs.home_Writing.{OthersStay, IsOldOrNewValue}
 use Rattle.ctr_log.specs.Logs.{Batches, HasLog, records}
 use Rattle.ctr_log.specs.Reading.{log_file}
 use Rattle.ctr_log.specs.Kept.{log_in, kept_log, other_file, other_byte, has_newer, IsDropped, HoldsOne, HoldsTwo, HoldsLog}
 use Rattle.ctr_log.proofs.KeptLaws.{log_in_is, begins, kept_one}
 use Rattle.ctr_log.proofs.ForgetLaws.{named_other, other_named, some_records}
-use Rattle.ctr_rec.specs.declared.record.Record.{Record}
-use Rattle.ctr_rec.specs.Read.{record_in}
+use Rattle.ctr_meta.specs.rec_Record.{Record}
+use Rattle.ctr_meta.specs.rec_Read.{record_in}
 use Rattle.ctr_meta.specs.Tables.{Tables, no_tables}
 use Rattle.ctr_meta.specs.Effects.{effect}
 use Rattle.ctr_meta.specs.Needs.{needs}

@@ -3,14 +3,14 @@ use Rattle.std.proofs.Common.{◌≡◌, inl, inr, ℕ, zero, suc, ◌+◌, ◌�
 use Rattle.std.proofs.lemmas.List.{take-append-drop, append_cancel_left}
 use Rattle.std.specs.Prelude.{fold}
 use Rattle.std.proofs.lemmas.Bool.Decides.{nat_tests}
-use Rattle.ctr_disk.specs.Image.{Image, content, OtherFilesStay}
-use Rattle.ctr_bytes.specs.Fields.{field}
+use Rattle.ctr_pool.specs.ctr_disk.Image.{Image, content, OtherFilesStay}
+use Rattle.ctr_meta.specs.ctr_bytes.Fields.{field}
 use Rattle.ctr_log.specs.Logs.{Batches, Log, records}
 use Rattle.ctr_log.specs.Reading.{log_file}
 use Rattle.ctr_log.specs.Kept.{log_in, kept_log, other_file, writer_file, has_newer, IsDropped, HoldsTwo, HoldsLog, WritesBy}
 use Rattle.ctr_log.proofs.KeptLaws.{log_in_is, begins}
-use Rattle.ctr_rec.specs.declared.record.Overlay.{Overlay}
-use Rattle.ctr_rec.specs.Read.{record_in}
+use Rattle.ctr_pool.specs.rec_Overlay.{Overlay}
+use Rattle.ctr_meta.specs.rec_Read.{record_in}
 use Rattle.ctr_meta.specs.Tables.{Tables, no_tables}
 use Rattle.ctr_meta.specs.Effects.{effect}
 use Rattle.ctr_pool.specs.Pages.{PageHeld}

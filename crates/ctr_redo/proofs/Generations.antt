@@ -5,11 +5,11 @@ use Rattle.std.proofs.lemmas.List.Sums.{fold-append}
 use Rattle.ctr_pool.specs.Pages.{PageHeld}
 use Rattle.ctr_meta.specs.Tables.{Tables, no_tables}
 use Rattle.ctr_meta.specs.Effects.{effect, listed, tables_of}
-use Rattle.ctr_bytes.specs.Fields.{field}
+use Rattle.ctr_meta.specs.ctr_bytes.Fields.{field}
 use Rattle.ctr_log.proofs.KeptLaws.{picks}
-use Rattle.ctr_rec.specs.declared.record.Record.{Record}
-use Rattle.ctr_rec.specs.Read.{record_in, record_with, parts_read, tag_numbered}
-use Rattle.ctr_rec.specs.declared.record.Record.TheVariants.{Checkpoint}
+use Rattle.ctr_meta.specs.rec_Record.{Record}
+use Rattle.ctr_meta.specs.rec_Read.{record_in, record_with, parts_read, tag_numbered}
+use Rattle.ctr_meta.specs.rec_Record.TheVariants.{Checkpoint}
 use Rattle.ctr_redo.specs.Overlaid.{overlaid, with_record}
 use Rattle.ctr_redo.specs.States.{page_limit, State, Stored, pages_of, state_of, pages_after, step, without_older, AreHome}
 use Rattle.ctr_redo.proofs.PageLaws.{overlaid-append, no_lower, none_new, stays_out, in_or_out, GoesIn, StaysOut}

@@ -2,17 +2,17 @@
 use Rattle.std.proofs.Common.{◌≡◌, ◌⊎◌, inl, inr, ⊎_elim, ℕ, ◌+◌, ◌<◌, ◌≤◌, ◌*◌, Bool, if◌then◌else◌, List, ◌++◌, length, Option, Some, None, refl, sym, ◌∙◌, ap, subst, arith}
 use Rattle.std.proofs.lemmas.List.{map-append}
 use Rattle.std.proofs.lemmas.Bool.{lt-ltb, le-ltb, cases_lt}
-use Rattle.ctr_types.specs.declared.file.File.TheVariants.{Pages}
-use Rattle.ctr_home.specs.declared.root.Root.{Root}
-use Rattle.ctr_disk.specs.Image.{Image, content}
-use Rattle.ctr_home.specs.declared.block.Block.TheVariants.{Page, Root as RootBlock}
-use Rattle.ctr_home.specs.Blocks.{BlockValue, value_of, zero_bytes, page_with, blank_page}
-use Rattle.ctr_home.specs.Roots.{SaysRoot, root_block}
-use Rattle.ctr_home.specs.Writing.{OthersStay, IsOldOrNewValue}
+use Rattle.ctr_log.specs.types_File.TheVariants.{Pages}
+use Rattle.ctr_log.specs.home_Root.{Root}
+use Rattle.ctr_pool.specs.ctr_disk.Image.{Image, content}
+use Rattle.ctr_log.specs.home_Block.TheVariants.{Page, Root as RootBlock}
+use Rattle.ctr_log.specs.home_Blocks.{BlockValue, value_of, zero_bytes, page_with, blank_page}
+use Rattle.ctr_log.specs.home_Roots.{SaysRoot, root_block}
+use Rattle.ctr_log.specs.home_Writing.{OthersStay, IsOldOrNewValue}
 use Rattle.ctr_log.specs.Kept.{kept_log, HoldsLog}
 use Rattle.ctr_meta.specs.Effects.{tables_of}
-use Rattle.ctr_rec.specs.declared.record.Record.{Record}
-use Rattle.ctr_rec.specs.Read.{record_in}
+use Rattle.ctr_meta.specs.rec_Record.{Record}
+use Rattle.ctr_meta.specs.rec_Read.{record_in}
 use Rattle.ctr_pool.specs.Pages.{PageHeld}
 use Rattle.ctr_redo.specs.Overlaid.{overlaid}
 use Rattle.ctr_meta.specs.Tables.{no_tables}

@@ -3,21 +3,21 @@ use Rattle.std.proofs.Common.{◌≡◌, ◌≢◌, inl, inr, ⊎_elim, ℕ, zer
 use Rattle.std.proofs.lemmas.List.{map-append, take-map}
 use Rattle.std.proofs.lemmas.Bool.{lt-ltb}
 use Rattle.std.proofs.lemmas.Bool.Decides.{eqb_tells}
-use Rattle.ctr_types.specs.declared.file.File.{File}
-use Rattle.ctr_types.specs.declared.file.File.TheVariants.{Root as RootFile, LogA, LogB, Pages}
-use Rattle.ctr_home.specs.declared.root.Root.{Root}
-use Rattle.ctr_disk.specs.Image.{Image, content, OtherFilesStay}
-use Rattle.ctr_home.specs.declared.block.Block.{Block}
-use Rattle.ctr_home.specs.declared.block.Block.TheVariants.{Page, Root as RootBlock}
-use Rattle.ctr_home.specs.Blocks.{BlockValue, value_of, page_with, blank_page}
-use Rattle.ctr_home.specs.Roots.{SaysRoot}
-use Rattle.ctr_home.specs.Writing.{OthersStay, IsOldOrNewValue}
+use Rattle.ctr_log.specs.types_File.{File}
+use Rattle.ctr_log.specs.types_File.TheVariants.{Root as RootFile, LogA, LogB, Pages}
+use Rattle.ctr_log.specs.home_Root.{Root}
+use Rattle.ctr_pool.specs.ctr_disk.Image.{Image, content, OtherFilesStay}
+use Rattle.ctr_log.specs.home_Block.{Block}
+use Rattle.ctr_log.specs.home_Block.TheVariants.{Page, Root as RootBlock}
+use Rattle.ctr_log.specs.home_Blocks.{BlockValue, value_of, page_with, blank_page}
+use Rattle.ctr_log.specs.home_Roots.{SaysRoot}
+use Rattle.ctr_log.specs.home_Writing.{OthersStay, IsOldOrNewValue}
 use Rattle.ctr_log.specs.Logs.{HasLog, records}
 use Rattle.ctr_log.specs.Reading.{log_file}
 use Rattle.ctr_log.specs.Kept.{log_in, kept_in, kept_log, other_file, writer_file, has_newer, IsDropped, HoldsLog, KeepsPrefix}
 use Rattle.ctr_log.proofs.KeptLaws.{holds_is}
-use Rattle.ctr_rec.specs.declared.record.Record.{Record}
-use Rattle.ctr_rec.specs.Read.{record_in}
+use Rattle.ctr_meta.specs.rec_Record.{Record}
+use Rattle.ctr_meta.specs.rec_Read.{record_in}
 use Rattle.ctr_pool.specs.Pages.{PageHeld}
 use Rattle.ctr_meta.specs.Tables.{no_tables}
 use Rattle.ctr_redo.specs.Fitting.{EachFits, BeginsOnce, FilesBegin, last_file, MayFollow, TablesGoOn, HaveNoCheckpoint}

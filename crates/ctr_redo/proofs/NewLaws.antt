@@ -2,19 +2,19 @@
 use Rattle.std.proofs.Common.{◌≡◌, ◌≢◌, inl, ⊎_elim, ℕ, zero, suc, ◌+◌, ◌<◌, ◌^◌, false, List, [], ◌∷◌, ◌++◌, length, replicate, Some, None, Ok, refl, sym, ◌∙◌, ap, subst, arith}
 use Rattle.std.specs.Prelude.{slice_index}
 use Rattle.std.proofs.lemmas.Bool.{cases_lt}
-use Rattle.ctr_disk.specs.Image.{Image}
-use Rattle.ctr_home.specs.Blocks.{BlockValue, zero_bytes}
-use Rattle.ctr_bytes.specs.Fields.{spelled, field}
-use Rattle.ctr_rec.specs.Checkpoint.{checkpoint_checks}
-use Rattle.ctr_rec.specs.Members.{pairs_from, items_from, lists_bytes, MembersFit}
-use Rattle.ctr_rec.specs.Spelling.{checkpoint_bytes, record_bytes}
-use Rattle.ctr_rec.proofs.MemberLaws.{members_pass}
+use Rattle.ctr_pool.specs.ctr_disk.Image.{Image}
+use Rattle.ctr_log.specs.home_Blocks.{BlockValue, zero_bytes}
+use Rattle.ctr_meta.specs.ctr_bytes.Fields.{spelled, field}
+use Rattle.ctr_meta.specs.rec_Checkpoint.{checkpoint_checks}
+use Rattle.ctr_meta.specs.rec_Members.{pairs_from, items_from, lists_bytes, MembersFit}
+use Rattle.ctr_meta.specs.rec_Spelling.{checkpoint_bytes, record_bytes}
+use Rattle.ctr_meta.proofs.rec_MemberLaws.{members_pass}
 use Rattle.ctr_log.specs.Fresh.{first_checkpoint, fresh_log, IsClosed}
 use Rattle.ctr_log.specs.Kept.{log_in, kept_log, has_newer, HoldsLog}
 use Rattle.ctr_log.proofs.KeptLaws.{holds_is}
-use Rattle.ctr_rec.specs.declared.record.Record.{Record}
-use Rattle.ctr_rec.specs.declared.record.Record.TheVariants.{Checkpoint}
-use Rattle.ctr_rec.specs.Read.{record_in}
+use Rattle.ctr_meta.specs.rec_Record.{Record}
+use Rattle.ctr_meta.specs.rec_Record.TheVariants.{Checkpoint}
+use Rattle.ctr_meta.specs.rec_Read.{record_in}
 use Rattle.ctr_meta.specs.Tables.{no_tables}
 use Rattle.ctr_meta.specs.Kept.{IsLogged}
 use Rattle.ctr_meta.specs.Needs.{needs}

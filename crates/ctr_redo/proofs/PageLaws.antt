@@ -2,7 +2,7 @@
 use Rattle.std.proofs.Common.{◌≡◌, ◌⊎◌, inl, inr, ⊎_elim, ℕ, ◌+◌, ◌<◌, ◌≤◌, Bool, true, false, nat_lt, ◌&&◌, if◌then◌else◌, List, [], ◌∷◌, ◌++◌, length, refl, sym, ◌∙◌, ap, subst, arith}
 use Rattle.std.proofs.lemmas.Bool.{ltb-true, ltb-false, lt-ltb, le-ltb}
 use Rattle.ctr_pool.specs.Pages.{PageHeld}
-use Rattle.ctr_rec.specs.declared.record.Record.{Record}
+use Rattle.ctr_meta.specs.rec_Record.{Record}
 use Rattle.ctr_redo.specs.Overlaid.{touches, changed_by, with_record, overlaid}
 
 pub either : (b : Bool) → (b ≡ true) ⊎ (b ≡ false)

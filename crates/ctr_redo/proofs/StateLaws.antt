@@ -7,7 +7,7 @@ use Rattle.std.proofs.lemmas.Bool.Decides.{eqb_tells}
 use Rattle.ctr_pool.specs.Pages.{PageHeld}
 use Rattle.ctr_meta.specs.Tables.{Tables, no_tables}
 use Rattle.ctr_meta.specs.Effects.{effect, tables_of}
-use Rattle.ctr_rec.specs.declared.record.Record.{Record}
+use Rattle.ctr_meta.specs.rec_Record.{Record}
 use Rattle.ctr_redo.specs.Overlaid.{touches, changed_by, with_record, overlaid, by_home}
 use Rattle.ctr_redo.specs.States.{page_limit, State, Stored, pages_of, state_of, pages_after, step, steps, with_more, home_put, with_home, next_of, LieBelow, page_at}
 use Rattle.ctr_redo.proofs.PageLaws.{GoesIn, StaysOut, in_or_out, choose_first, choose_second, below_next, overlaid-append}

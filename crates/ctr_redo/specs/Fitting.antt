@@ -1,14 +1,14 @@
 -- Which records make a log: each fits behind those before it, and a Checkpoint begins each file of it.
 use Rattle.std.specs.Prelude.{◌≡◌, ◌≢◌, ◌<◌, ℕ, true, List, [], ◌∷◌, ◌++◌, Option, Some, None, Ok}
-use Rattle.ctr_types.specs.declared.file.File.{File}
-use Rattle.ctr_home.specs.declared.root.Root.{Root}
-use Rattle.ctr_disk.specs.Image.{Image, content}
-use Rattle.ctr_bytes.specs.Fields.{field}
+use Rattle.ctr_log.specs.types_File.{File}
+use Rattle.ctr_log.specs.home_Root.{Root}
+use Rattle.ctr_pool.specs.ctr_disk.Image.{Image, content}
+use Rattle.ctr_meta.specs.ctr_bytes.Fields.{field}
 use Rattle.ctr_log.specs.Reading.{log_file}
 use Rattle.ctr_log.specs.Kept.{log_in, kept_log, other_file, has_newer, writer_file}
-use Rattle.ctr_rec.specs.declared.record.Overlay.{Overlay}
-use Rattle.ctr_rec.specs.Spelling.{record_bytes}
-use Rattle.ctr_rec.specs.Read.{record_in}
+use Rattle.ctr_pool.specs.rec_Overlay.{Overlay}
+use Rattle.ctr_meta.specs.rec_Spelling.{record_bytes}
+use Rattle.ctr_meta.specs.rec_Read.{record_in}
 use Rattle.ctr_meta.specs.Tables.{Tables, no_tables}
 use Rattle.ctr_meta.specs.Effects.{effect}
 use Rattle.ctr_meta.specs.Needs.{needs}

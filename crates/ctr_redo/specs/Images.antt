@@ -1,21 +1,21 @@
 -- What of an image folds to a state, and which images are sound.
 use Rattle.std.specs.Prelude.{◌≡◌, ◌⊎◌, ◌+◌, ◌<◌, ◌≤◌, ◌*◌, ◌^◌, ℕ, true, false, List, [], ◌∷◌, ◌++◌, map, take, length, replicate, Some, None}
-use Rattle.ctr_types.specs.declared.file.File.{File}
-use Rattle.ctr_types.specs.declared.file.File.TheVariants.{Root as RootFile, LogA, LogB, Pages}
-use Rattle.ctr_home.specs.declared.root.Root.{Root}
-use Rattle.ctr_disk.specs.Image.{Image, content}
-use Rattle.ctr_home.specs.declared.block.Block.TheVariants.{Page, Root as RootBlock}
-use Rattle.ctr_home.specs.Blocks.{BlockValue, zero_bytes, value_of, page_at_home}
-use Rattle.ctr_home.specs.Roots.{IsRoot, SaysRoot, root_block}
+use Rattle.ctr_log.specs.types_File.{File}
+use Rattle.ctr_log.specs.types_File.TheVariants.{Root as RootFile, LogA, LogB, Pages}
+use Rattle.ctr_log.specs.home_Root.{Root}
+use Rattle.ctr_pool.specs.ctr_disk.Image.{Image, content}
+use Rattle.ctr_log.specs.home_Block.TheVariants.{Page, Root as RootBlock}
+use Rattle.ctr_log.specs.home_Blocks.{BlockValue, zero_bytes, value_of, page_at_home}
+use Rattle.ctr_log.specs.home_Roots.{IsRoot, SaysRoot, root_block}
 use Rattle.ctr_log.specs.Logs.{HasLog}
 use Rattle.ctr_log.specs.Fresh.{fresh_log, IsClosed}
 use Rattle.ctr_meta.specs.Tables.{no_tables}
 use Rattle.ctr_meta.specs.Effects.{effect, tables_of}
-use Rattle.ctr_bytes.specs.Fields.{field}
+use Rattle.ctr_meta.specs.ctr_bytes.Fields.{field}
 use Rattle.ctr_log.specs.Reading.{log_file}
 use Rattle.ctr_log.specs.Kept.{log_in, kept_log, other_file, other_byte, has_newer, HoldsLog}
-use Rattle.ctr_rec.specs.declared.record.Record.{Record}
-use Rattle.ctr_rec.specs.Read.{record_in}
+use Rattle.ctr_meta.specs.rec_Record.{Record}
+use Rattle.ctr_meta.specs.rec_Read.{record_in}
 use Rattle.ctr_pool.specs.Pages.{PageHeld}
 use Rattle.ctr_redo.specs.Overlaid.{overlaid}
 use Rattle.ctr_redo.specs.Fitting.{EachFits, FilesBegin, TablesGoOn}

@@ -1,10 +1,10 @@
 -- What the records of a log make of a page.
 use Rattle.std.specs.Prelude.{ℕ, ◌+◌, ◌==◌, ◌&&◌, nat_lt, if◌then◌else◌, Bool, false, List, [], ◌∷◌, Option, None, Some}
-use Rattle.ctr_rec.specs.declared.record.Overlay.{Overlay}
-use Rattle.ctr_rec.specs.declared.record.Record.{Record}
-use Rattle.ctr_rec.specs.declared.record.Form.{Form}
-use Rattle.ctr_rec.specs.declared.record.Form.TheVariants.{Lists, Fields}
-use Rattle.ctr_rec.specs.Parts.{form_of}
+use Rattle.ctr_pool.specs.rec_Overlay.{Overlay}
+use Rattle.ctr_meta.specs.rec_Record.{Record}
+use Rattle.ctr_meta.specs.rec_Form.{Form}
+use Rattle.ctr_meta.specs.rec_Form.TheVariants.{Lists, Fields}
+use Rattle.ctr_meta.specs.rec_Parts.{form_of}
 use Rattle.ctr_pool.specs.Pages.{PageHeld, overlaid_by}
 
 -- the overlay of a form, where it has one

@@ -1,6 +1,6 @@
 -- The state that pages at home and the records of a log fold to.
 use Rattle.std.specs.Prelude.{◌≡◌, ℕ, min, zero, suc, ◌+◌, ◌<◌, ◌==◌, if◌then◌else◌, List, [], ◌∷◌, ◌++◌, length}
-use Rattle.ctr_rec.specs.declared.record.Record.{Record}
+use Rattle.ctr_meta.specs.rec_Record.{Record}
 use Rattle.ctr_pool.specs.Pages.{PageHeld}
 use Rattle.ctr_meta.specs.Tables.{Tables}
 use Rattle.ctr_meta.specs.Effects.{effect, tables_of}

@@ -1,12 +1,12 @@
 // What a crash leaves of calls of the log and of the homes. A call does nothing: what it ensures is the law.
 ghost use Rattle.std.specs.Prelude.{◌≡◌, ◌≤◌, ◌<◌, ◌⊎◌, ℕ, List, [], ◌∷◌};
-ghost use Rattle.ctr_types.specs.declared.file.File.{File as FileOf};
-ghost use Rattle.ctr_disk.specs.Image.{Image};
-ghost use Rattle.ctr_home.specs.declared.root.Root.{Root};
-ghost use Rattle.ctr_home.specs.declared.block.Block.TheVariants.{Page, Root as RootBlock};
-ghost use Rattle.ctr_home.specs.Roots.{IsRoot, root_block};
-ghost use Rattle.ctr_home.specs.Blocks.{BlockValue, zero_bytes};
-ghost use Rattle.ctr_home.specs.Writing.{IsOldOrNewValue};
+ghost use Rattle.ctr_log.specs.types_File.{File as FileOf};
+ghost use Rattle.ctr_pool.specs.ctr_disk.Image.{Image};
+ghost use Rattle.ctr_log.specs.home_Root.{Root};
+ghost use Rattle.ctr_log.specs.home_Block.TheVariants.{Page, Root as RootBlock};
+ghost use Rattle.ctr_log.specs.home_Roots.{IsRoot, root_block};
+ghost use Rattle.ctr_log.specs.home_Blocks.{BlockValue, zero_bytes};
+ghost use Rattle.ctr_log.specs.home_Writing.{IsOldOrNewValue};
 ghost use Rattle.ctr_log.specs.Kept.{other_file, KeepsPrefix};
 ghost use Rattle.ctr_redo.specs.States.{page_limit, state_of, with_more, page_at};
 ghost use Rattle.ctr_redo.specs.Fitting.{MayFollow};

@@ -2,8 +2,8 @@
 ghost use Rattle.std.specs.Prelude.{◌≡◌, ◌≤◌, ◌<◌, ◌+◌, ◌-◌, ℕ, List, [], ◌∷◌, ◌++◌, length, take};
 ghost use Rattle.ctr_pool.specs.Pages.{PageHeld};
 ghost use Rattle.ctr_meta.specs.Effects.{listed};
-ghost use Rattle.ctr_rec.specs.declared.record.Record.{Record};
-ghost use Rattle.ctr_rec.specs.declared.record.Record.TheVariants.{Checkpoint};
+ghost use Rattle.ctr_meta.specs.rec_Record.{Record};
+ghost use Rattle.ctr_meta.specs.rec_Record.TheVariants.{Checkpoint};
 ghost use Rattle.ctr_redo.specs.Overlaid.{overlaid, by_home};
 ghost use Rattle.ctr_redo.specs.States.{page_limit, State, Stored, state_of, step, steps, with_more, with_home, without_older, next_of, LieBelow, AreHome, page_at};
 

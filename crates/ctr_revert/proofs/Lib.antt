@@ -4,3 +4,4 @@ pub mod Passed
 pub mod Row
 pub mod Reverted
 pub mod Taken
+pub use Rattle.ctr_versions.proofs.Keys as versions_Keys

@@ -6,10 +6,10 @@ use Rattle.ctr_disk.specs.Image.{Image}
 use Rattle.ctr_disk.specs.declared.fault.StoreFault.{StoreFault}
 use Rattle.ctr_page.specs.declared.walk.BadChain.{BadChain}
 use Rattle.ctr_page.specs.declared.rows.Place.{Place}
-use Rattle.ctr_base.specs.Base.{IsSoundImage}
-use Rattle.ctr_store.specs.Store.{View}
-use Rattle.ctr_walk.specs.OneRecord.{WhyNotLogged, LogsOne}
-use Rattle.ctr_record_effects.specs.States.{pages_in}
+use Rattle.ctr_pvs.specs.base_Base.{IsSoundImage}
+use Rattle.ctr_pvs.specs.store_Store.{View}
+use Rattle.ctr_pvs.specs.walk_OneRecord.{WhyNotLogged, LogsOne}
+use Rattle.ctr_pvs.specs.record_effects_States.{pages_in}
 use Rattle.ctr_revert.specs.declared.slots.SlotLaid.{SlotLaid}
 use Rattle.ctr_revert.specs.Reverting.{lost_record, bytes_laid, RevertsHead, PassesRow, EndsReverting, RevertsRow}
 

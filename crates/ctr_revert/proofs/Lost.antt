@@ -15,11 +15,11 @@ use Rattle.ctr_page.specs.Places.{slot_size}
 use Rattle.ctr_page.specs.Reading.{older_at}
 use Rattle.ctr_page.specs.Columns.{kinds_width}
 use Rattle.ctr_page.specs.Making.{slot_bytes, IsSlot, IsEntry, IsPrevious}
-use Rattle.ctr_area.specs.Reading.{area_of}
-use Rattle.ctr_area.specs.Checked.{kinds_at}
-use Rattle.ctr_walk.specs.declared.table.TableOf.{TableOf}
+use Rattle.ctr_pvs.specs.area_Reading.{area_of}
+use Rattle.ctr_pvs.specs.area_Checked.{kinds_at}
+use Rattle.ctr_pvs.specs.walk_TableOf.{TableOf}
 use Rattle.ctr_pvs.specs.Table.{told_of}
-use Rattle.ctr_walk.specs.Tables.{kinds_said}
+use Rattle.ctr_pvs.specs.walk_Tables.{kinds_said}
 use Rattle.ctr_pvs.specs.Reading.{versions_there, kept_on_check, kept_at_check}
 use Rattle.ctr_revert.specs.declared.slots.FromSlot.{FromSlot}
 use Rattle.ctr_revert.specs.Reverting.{if_used, entry_at_place, blank_slot, slot_by_entry, slot_without_head, MadePrevious, MadeFrom, behind_check, MadeByEntry, EntrySaidFrom, IsMadeOr, LosesHead, EndsBehind}

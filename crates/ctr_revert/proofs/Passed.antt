@@ -14,8 +14,8 @@ use Rattle.ctr_page.specs.declared.rows.Place.{Place}
 use Rattle.ctr_page.specs.Places.{slot_size, start_of}
 use Rattle.ctr_page.specs.Columns.{kinds_width, slot_start}
 use Rattle.ctr_page.specs.Damage.{header_check, slot_check}
-use Rattle.ctr_walk.specs.declared.table.TableOf.{TableOf}
-use Rattle.ctr_walk.specs.Tables.{kinds_said}
+use Rattle.ctr_pvs.specs.walk_TableOf.{TableOf}
+use Rattle.ctr_pvs.specs.walk_Tables.{kinds_said}
 use Rattle.ctr_pvs.specs.Reading.{lies_check, versions_there, kept_on_check, VersionSaid, row_on_check, RowSaid}
 use Rattle.ctr_pvs.proofs.Told.{lies_inside, slot_small, within, by_there}
 use Rattle.ctr_revert.specs.declared.slots.FromSlot.{FromSlot}

@@ -5,20 +5,20 @@ use Rattle.ctr_disk.specs.declared.disk.Disk.{Ghosts}
 use Rattle.ctr_disk.specs.Image.{Image}
 use Rattle.ctr_disk.specs.declared.fault.StoreFault.{StoreFault}
 use Rattle.ctr_rec.specs.declared.record.Record.{Record}
-use Rattle.ctr_redo.specs.States.{State, step}
+use Rattle.ctr_pvs.specs.redo_States.{State, step}
 use Rattle.ctr_page.specs.declared.header.Header.{Header}
 use Rattle.ctr_page.specs.declared.rows.Place.{Place}
 use Rattle.ctr_page.specs.declared.rows.RowSlot.{RowSlot}
 use Rattle.ctr_page.specs.Places.{slot_size, start_of}
 use Rattle.ctr_page.specs.Making.{slot_bytes, IsSlot}
-use Rattle.ctr_area.specs.Areas.{Slot}
-use Rattle.ctr_area.specs.Reading.{slot_said, columns_on, width_on}
-use Rattle.ctr_area.specs.Changes.{with_slot, IsPlaceOf}
-use Rattle.ctr_base.specs.Base.{IsSoundImage}
-use Rattle.ctr_store.specs.Store.{View}
-use Rattle.ctr_record_effects.specs.States.{pages_in, area_in, IsWholePage}
-use Rattle.ctr_record_effects.specs.Changing.{laid_on_place, Lays}
-use Rattle.ctr_walk.specs.OneRecord.{LogsOne}
+use Rattle.ctr_pvs.specs.area_Areas.{Slot}
+use Rattle.ctr_pvs.specs.area_Reading.{slot_said, columns_on, width_on}
+use Rattle.ctr_pvs.specs.area_Changes.{with_slot, IsPlaceOf}
+use Rattle.ctr_pvs.specs.base_Base.{IsSoundImage}
+use Rattle.ctr_pvs.specs.store_Store.{View}
+use Rattle.ctr_pvs.specs.record_effects_States.{pages_in, area_in, IsWholePage}
+use Rattle.ctr_pvs.specs.record_effects_Changing.{laid_on_place, Lays}
+use Rattle.ctr_pvs.specs.walk_OneRecord.{LogsOne}
 use Rattle.ctr_pvs.specs.Table.{owner_of}
 use Rattle.ctr_pvs.specs.Reading.{row_check_at}
 use Rattle.ctr_pvs.proofs.Told.{chain_ok, header_here}

@@ -16,12 +16,12 @@ use Rattle.ctr_page.specs.Places.{slot_size, kept_size, start_of}
 use Rattle.ctr_page.specs.Reading.{slot_at, older_at}
 use Rattle.ctr_page.specs.Columns.{kinds_width, columns_in}
 use Rattle.ctr_page.specs.Making.{slot_bytes, IsSlot}
-use Rattle.ctr_area.specs.Areas.{Slot, Older, Area, free_slot, free_older}
-use Rattle.ctr_area.specs.Reading.{version_said, slot_said, older_said, entry_bytes, header_on, columns_on, width_on, size_on, area_of}
-use Rattle.ctr_area.specs.Changes.{IsPlaceOf}
-use Rattle.ctr_walk.specs.declared.table.TableOf.{TableOf}
+use Rattle.ctr_pvs.specs.area_Areas.{Slot, Older, Area, free_slot, free_older}
+use Rattle.ctr_pvs.specs.area_Reading.{version_said, slot_said, older_said, entry_bytes, header_on, columns_on, width_on, size_on, area_of}
+use Rattle.ctr_pvs.specs.area_Changes.{IsPlaceOf}
+use Rattle.ctr_pvs.specs.walk_TableOf.{TableOf}
 use Rattle.ctr_pvs.specs.Table.{told_of, owner_of, TableSaid}
-use Rattle.ctr_walk.specs.Tables.{kinds_said}
+use Rattle.ctr_pvs.specs.walk_Tables.{kinds_said}
 use Rattle.ctr_pvs.specs.Reading.{kept_at_check}
 use Rattle.ctr_pvs.proofs.Told.{IsPageOf, page_of_table, row_passes, older_read, told_ok}
 use Rattle.ctr_revert.specs.declared.slots.FromSlot.{FromSlot}

@@ -3,11 +3,11 @@ use Rattle.std.proofs.Common.{◌≡◌, ◌⊎◌, ⊎_elim, inl, inr, ℕ, suc
 use Rattle.std.specs.Prelude.{unwrap_or, is_some, List}
 use Rattle.ctr_page.specs.declared.rows.Place.{Place}
 use Rattle.ctr_meta.specs.Tables.{Tables}
-use Rattle.ctr_area.specs.Areas.{RowVersion, Slot, Older, Area, free_slot}
-use Rattle.ctr_area.specs.Reading.{area_of}
-use Rattle.ctr_area.specs.Chains.{older_bound, Leads}
-use Rattle.ctr_area.specs.Sound.{IsUsedSlot, IsKeptFor, IsSoundArea}
-use Rattle.ctr_record_laws.specs.Owed.{Reverting, ToPrevious, ToKept, ToNothing, reverted_slot, FitsReverting}
+use Rattle.ctr_pvs.specs.area_Areas.{RowVersion, Slot, Older, Area, free_slot}
+use Rattle.ctr_pvs.specs.area_Reading.{area_of}
+use Rattle.ctr_pvs.specs.area_Chains.{older_bound, Leads}
+use Rattle.ctr_pvs.specs.area_Sound.{IsUsedSlot, IsKeptFor, IsSoundArea}
+use Rattle.ctr_pvs.specs.record_laws_Owed.{Reverting, ToPrevious, ToKept, ToNothing, reverted_slot, FitsReverting}
 use Rattle.ctr_revert.specs.Reverting.{behind_head, without_head, KeepsKey}
 use Rattle.ctr_revert.proofs.Row.{nothing_at}
 

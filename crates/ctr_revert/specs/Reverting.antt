@@ -17,20 +17,20 @@ use Rattle.ctr_page.specs.Places.{slot_size, start_of}
 use Rattle.ctr_page.specs.Reading.{slot_at, older_at}
 use Rattle.ctr_page.specs.Columns.{kinds_width}
 use Rattle.ctr_page.specs.Making.{slot_bytes, IsSlot, IsEntry}
-use Rattle.ctr_area.specs.Areas.{nowhere, RowVersion, Slot, Older, free_slot, Area}
-use Rattle.ctr_area.specs.Reading.{header_on, width_on, area_of}
-use Rattle.ctr_area.specs.Checked.{kinds_at}
-use Rattle.ctr_base.specs.Base.{IsSoundImage}
-use Rattle.ctr_store.specs.Store.{View}
-use Rattle.ctr_walk.specs.OneRecord.{WhyNotLogged, LogsOne}
-use Rattle.ctr_walk.specs.Damage.{EndsTold, ReadsPages}
-use Rattle.ctr_record_effects.specs.States.{pages_in}
-use Rattle.ctr_record_effects.specs.Changing.{laid_on_place}
+use Rattle.ctr_pvs.specs.area_Areas.{nowhere, RowVersion, Slot, Older, free_slot, Area}
+use Rattle.ctr_pvs.specs.area_Reading.{header_on, width_on, area_of}
+use Rattle.ctr_pvs.specs.area_Checked.{kinds_at}
+use Rattle.ctr_pvs.specs.base_Base.{IsSoundImage}
+use Rattle.ctr_pvs.specs.store_Store.{View}
+use Rattle.ctr_pvs.specs.walk_OneRecord.{WhyNotLogged, LogsOne}
+use Rattle.ctr_pvs.specs.walk_Damage.{EndsTold, ReadsPages}
+use Rattle.ctr_pvs.specs.record_effects_States.{pages_in}
+use Rattle.ctr_pvs.specs.record_effects_Changing.{laid_on_place}
 use Rattle.ctr_revert.specs.declared.slots.FromSlot.{FromSlot}
 use Rattle.ctr_revert.specs.declared.slots.SlotLaid.{SlotLaid}
-use Rattle.ctr_walk.specs.declared.table.TableOf.{TableOf}
+use Rattle.ctr_pvs.specs.walk_TableOf.{TableOf}
 use Rattle.ctr_pvs.specs.Table.{told_of, owner_of}
-use Rattle.ctr_walk.specs.Tables.{kinds_said}
+use Rattle.ctr_pvs.specs.walk_Tables.{kinds_said}
 use Rattle.ctr_pvs.specs.Reading.{versions_there, kept_on_check, kept_at_check, row_on_check, row_check_at}
 
 -- ---- in the area

@@ -3,14 +3,14 @@ use Rattle.std.specs.Prelude.{◌≡◌, ◌≢◌, ℕ, Bool, None}
 use Rattle.ctr_versions.specs.Chains.{Numbers}
 use Rattle.ctr_versions.specs.Changes.{revert}
 use Rattle.ctr_versions.specs.Versions.{rows_of, RowsSet}
-use Rattle.ctr_redo.specs.States.{State}
+use Rattle.ctr_pvs.specs.redo_States.{State}
 use Rattle.ctr_page.specs.declared.rows.Place.{Place}
-use Rattle.ctr_area.specs.Areas.{Slot}
-use Rattle.ctr_area.specs.Images.{versions_in}
-use Rattle.ctr_record_laws.specs.Owed.{AgreeOnCommits}
-use Rattle.ctr_record_effects.specs.States.{area_in}
-use Rattle.ctr_record_laws.specs.Loose.{IsLoose}
-use Rattle.ctr_record_effects.specs.Standing.{HasSoundArea}
+use Rattle.ctr_pvs.specs.area_Areas.{Slot}
+use Rattle.ctr_pvs.specs.area_Images.{versions_in}
+use Rattle.ctr_pvs.specs.record_laws_Owed.{AgreeOnCommits}
+use Rattle.ctr_pvs.specs.record_effects_States.{area_in}
+use Rattle.ctr_pvs.specs.record_laws_Loose.{IsLoose}
+use Rattle.ctr_pvs.specs.record_effects_Standing.{HasSoundArea}
 
 -- the slot at a place of a state
 abbrev pub slot_of : State → Place → Slot

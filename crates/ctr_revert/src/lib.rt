@@ -6,4 +6,5 @@
 mod revert;
 mod slots;
 
+pub use ctr_pvs::{LentPart, LentSlot, find_free_entry, keep, row};
 pub use revert::revert_row;

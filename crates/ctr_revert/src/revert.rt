@@ -1,37 +1,35 @@
 // One record takes the head from a row.
 ghost use Rattle.std.specs.Prelude.{◌≡◌, ◌≤◌, ◌<◌, ◌+◌, true, false, Ok, ⊤, IfOk, OnOk, length, take, ℕ};
-ghost use Rattle.ctr_base.specs.declared.growing.TheConstants.{MOST_PAGES};
-ghost use Rattle.ctr_base.specs.Base.{WhereSound};
-ghost use Rattle.ctr_store.specs.Parts.{MayCount};
-ghost use Rattle.ctr_store.specs.Store.{View, LeavesPage};
+ghost use Rattle.ctr_pvs.specs.base_growing_TheConstants.{MOST_PAGES};
+ghost use Rattle.ctr_pvs.specs.base_Base.{WhereSound};
+ghost use Rattle.ctr_pvs.specs.store_Parts.{MayCount};
+ghost use Rattle.ctr_pvs.specs.store_Store.{View, LeavesPage};
 ghost use Rattle.ctr_page.specs.declared.table.TheConstants.{PAGE_SIZE};
 ghost use Rattle.ctr_page.specs.Places.{slot_size as size_of_slot, start_of as start_place};
 ghost use Rattle.ctr_page.specs.Columns.{kinds_width as width_of_kinds};
-ghost use Rattle.ctr_area.specs.Changes.{with_slot};
-ghost use Rattle.ctr_walk.specs.Tables.{kinds_said};
-ghost use Rattle.ctr_walk.specs.OneRecord.{HasRoomForOne, LogsOne};
-ghost use Rattle.ctr_walk.specs.Damage.{damage_told, searched, EndsOnPage};
-ghost use Rattle.ctr_record_effects.specs.States.{pages_in, area_in};
-ghost use Rattle.ctr_area.specs.Sound.{IsUsedSlot};
-ghost use Rattle.ctr_record_laws.specs.Owed.{Reverting, FitsReverting, OwedByRevert};
-ghost use Rattle.ctr_actions.specs.Sites.{site_of};
-ghost use Rattle.ctr_actions.specs.Actions.{Reverts, site_after};
-ghost use Rattle.ctr_record_effects.specs.Standing.{HasSoundArea};
+ghost use Rattle.ctr_pvs.specs.area_Changes.{with_slot};
+ghost use Rattle.ctr_pvs.specs.walk_Tables.{kinds_said};
+ghost use Rattle.ctr_pvs.specs.walk_OneRecord.{HasRoomForOne, LogsOne};
+ghost use Rattle.ctr_pvs.specs.walk_Damage.{damage_told, searched, EndsOnPage};
+ghost use Rattle.ctr_pvs.specs.record_effects_States.{pages_in, area_in};
+ghost use Rattle.ctr_pvs.specs.area_Sound.{IsUsedSlot};
+ghost use Rattle.ctr_pvs.specs.record_laws_Owed.{Reverting, FitsReverting, OwedByRevert};
+ghost use Rattle.ctr_pvs.specs.actions_Sites.{site_of};
+ghost use Rattle.ctr_pvs.specs.actions_Actions.{Reverts, site_after};
+ghost use Rattle.ctr_pvs.specs.record_effects_Standing.{HasSoundArea};
 ghost use Rattle.ctr_revert.specs.Taking.{TakesHead};
 ghost use Rattle.ctr_revert.specs.Reverting.{without_head, KeepsKey, lost_record, SlotSaidFrom, EntrySaidFrom, BytesSaid, EndsRow, LiesThere, EndsReverting, RevertsRow};
 
 use crate::slots::{FromSlot, SLOT_MOST, SlotLaid, blank_bytes, from_entry, from_slot, or_blank};
-use ctr_actions::a_logged_record_is_its_action;
-use ctr_base::Origin;
 use ctr_disk::{Disk, StoreFault};
 use ctr_page::{BadPage, PageKind, Place, kinds_width, slot_size};
-use ctr_pvs::{check_versions_there, row_in, table_on, version_in};
+use ctr_pvs::{
+    Origin, SearchFault, Store, TableOf, a_logged_record_is_its_action, a_revert_leaves_its_entry,
+    a_revert_takes_the_head, a_slot_is_laid, check_versions_there, found_on, log_on_page,
+    over_place, pages_are_in_bounds, row_in, table_on, tell, version_in,
+};
 use ctr_rec::Record;
-use ctr_record_effects::{a_slot_is_laid, over_place};
-use ctr_record_laws::{a_revert_leaves_its_entry, a_revert_takes_the_head, pages_are_in_bounds};
-use ctr_store::Store;
 use ctr_types::Xid;
-use ctr_walk::{SearchFault, TableOf, found_on, log_on_page, tell};
 
 /// The bytes of a slot.
 type SlotBytes = [u8; SLOT_MOST];

@@ -18,16 +18,16 @@ use Rattle.ctr_record_laws.proofs.Members.{count_append, bit}
 use Rattle.ctr_record_laws.proofs.Xids.{both_same, more_same, less_same}
 use Rattle.ctr_record_laws.specs.Bounds.{IsInBounds}
 use Rattle.ctr_record_laws.specs.Owed.{loses_head}
-use Rattle.ctr_redo.specs.States.{State, counting}
-use Rattle.ctr_record_effects.specs.States.{pages_in, area_in}
-use Rattle.ctr_record_effects.specs.Standing.{IsDatabaseState}
+use Rattle.ctr_page_turns.specs.redo_States.{State, counting}
+use Rattle.ctr_page_turns.specs.record_effects_States.{pages_in, area_in}
+use Rattle.ctr_page_turns.specs.record_effects_Standing.{IsDatabaseState}
 use Rattle.ctr_versions.proofs.Keys.{known}
-use Rattle.ctr_actions.specs.Sites.{Site, IsSoundSite, site_of}
-use Rattle.ctr_actions.specs.Actions.{Action, Begins, Allocates, Formats, Links, LinksOlder, Keeps, Writes, Creates, Drops, Commits, Frees, Uncreates, Undrops, Aborts, Reclaims, Reverts, Trims, Cuts, FreesOlder, MakesDead, Unlinks, UnlinksOlder, FreesEntry, Forgets, Checkpoints, Owes, site_after, undoing, item_count}
-use Rattle.ctr_actions.proofs.Latest.{last_among}
+use Rattle.ctr_page_turns.specs.actions_Sites.{Site, IsSoundSite, site_of}
+use Rattle.ctr_page_turns.specs.actions_Actions.{Action, Begins, Allocates, Formats, Links, LinksOlder, Keeps, Writes, Creates, Drops, Commits, Frees, Uncreates, Undrops, Aborts, Reclaims, Reverts, Trims, Cuts, FreesOlder, MakesDead, Unlinks, UnlinksOlder, FreesEntry, Forgets, Checkpoints, Owes, site_after, undoing, item_count}
+use Rattle.ctr_page_turns.proofs.actions_Latest.{last_among}
 use Rattle.ctr_page_turns.specs.Acts.{ActsBy}
-use Rattle.ctr_passed.specs.Laid.{LiesAs, LaidPasses}
-use Rattle.ctr_actions.specs.Records.{Does}
+use Rattle.ctr_page_turns.specs.passed_Laid.{LiesAs, LaidPasses}
+use Rattle.ctr_page_turns.specs.actions_Records.{Does}
 use Rattle.ctr_rollback.specs.declared.rolling.Rolled.TheVariants.{Back}
 use Rattle.ctr_rollback.specs.Rolling.{RollsTo}
 use Rattle.ctr_rollback.specs.Series.{IsAnothers, LeadsBy, LeadOn, its_turns}

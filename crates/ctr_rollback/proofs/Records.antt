@@ -18,19 +18,19 @@ use Rattle.ctr_meta.specs.Tables.{Tables}
 use Rattle.ctr_page.specs.declared.table.TheConstants.{DROPPER_AT}
 use Rattle.ctr_area.specs.Sound.{how_many}
 use Rattle.ctr_versions.proofs.Keys.{known}
-use Rattle.ctr_redo.specs.States.{State}
-use Rattle.ctr_record_effects.specs.States.{area_in, IsWholePage}
-use Rattle.ctr_record_effects.specs.Standing.{IsDatabaseState}
-use Rattle.ctr_record_effects.specs.Changing.{laid_at, laid_in_entry, free_record, uncreate_record, undrop_record}
+use Rattle.ctr_page_turns.specs.redo_States.{State}
+use Rattle.ctr_page_turns.specs.record_effects_States.{area_in, IsWholePage}
+use Rattle.ctr_page_turns.specs.record_effects_Standing.{IsDatabaseState}
+use Rattle.ctr_catalog.specs.record_effects_Changing.{laid_at, laid_in_entry, free_record, uncreate_record, undrop_record}
 use Rattle.ctr_record_laws.specs.Bounds.{IsInBounds}
 use Rattle.ctr_record_laws.specs.Owed.{OwedByUncreate, OwedByUndrop}
-use Rattle.ctr_actions.specs.Sites.{Site, IsSoundSite, site_of}
-use Rattle.ctr_actions.specs.Actions.{Action, Frees, Reclaims, Uncreates, Undrops, Owes, undoing}
-use Rattle.ctr_actions.specs.Records.{record_of}
-use Rattle.ctr_actions.proofs.Latest.{last_among}
-use Rattle.ctr_passed.specs.Logged.{RecordLies, IsLaidAs}
-use Rattle.ctr_store.specs.Store.{View, unmet_need}
-use Rattle.ctr_walk.specs.OneRecord.{WhyNotLogged, LogsOne}
+use Rattle.ctr_page_turns.specs.actions_Sites.{Site, IsSoundSite, site_of}
+use Rattle.ctr_page_turns.specs.actions_Actions.{Action, Frees, Reclaims, Uncreates, Undrops, Owes, undoing}
+use Rattle.ctr_page_turns.specs.actions_Records.{record_of}
+use Rattle.ctr_page_turns.proofs.actions_Latest.{last_among}
+use Rattle.ctr_page_turns.specs.passed_Logged.{RecordLies, IsLaidAs}
+use Rattle.ctr_stops.specs.store_Store.{View, unmet_need}
+use Rattle.ctr_page_turns.specs.walk_OneRecord.{WhyNotLogged, LogsOne}
 use Rattle.ctr_catalog.specs.Writing.{undo_record, undo_page, HasMade}
 
 -- a table that was made has an entry

@@ -14,21 +14,21 @@ use Rattle.ctr_versions.specs.Engine.{SessionHeld}
 use Rattle.ctr_rec.specs.declared.record.SlogItem.{SlogItem}
 use Rattle.ctr_rec.specs.declared.record.SlogItem.TheVariants.{AllocOf, FreeOf, CreateOf, DropOf}
 use Rattle.ctr_record_laws.specs.Owed.{IsLastItem}
-use Rattle.ctr_names.specs.Held.{IsNameHeldBy}
+use Rattle.ctr_catalog.specs.names_Held.{IsNameHeldBy}
 use Rattle.ctr_area.specs.Areas.{Title}
 use Rattle.ctr_area.specs.Sound.{IsAmong, IsSchemaItem}
-use Rattle.ctr_actions.specs.Facts.{Fact, IsOpen, HasPage, HasNoPageBut, HasBlank, HasSlot, HasCopy, HasTable, HoldsFact, IsAway, IsBeside}
-use Rattle.ctr_actions.specs.Sites.{Site}
-use Rattle.ctr_actions.specs.Actions.{undoing}
-use Rattle.ctr_actions.proofs.Latest.{last_among}
-use Rattle.ctr_kept.specs.ctr_paged.Shown.{Scene}
-use Rattle.ctr_kept.specs.ctr_paged.Moving.{IsActing, MovesTo}
-use Rattle.ctr_kept.specs.Carried.{Covers, IsUnderLock}
-use Rattle.ctr_kept.specs.Tables.{IsTable}
-use Rattle.ctr_kept.proofs.Tables.{carries_more, uses_more}
+use Rattle.ctr_stops.specs.actions_Facts.{Fact, IsOpen, HasPage, HasNoPageBut, HasBlank, HasSlot, HasCopy, HasTable, HoldsFact, IsAway, IsBeside}
+use Rattle.ctr_page_turns.specs.actions_Sites.{Site}
+use Rattle.ctr_page_turns.specs.actions_Actions.{undoing}
+use Rattle.ctr_page_turns.proofs.actions_Latest.{last_among}
+use Rattle.ctr_txn.specs.paged_Shown.{Scene}
+use Rattle.ctr_txn.specs.paged_Moving.{IsActing, MovesTo}
+use Rattle.ctr_stops.specs.kept_Carried.{Covers, IsUnderLock}
+use Rattle.ctr_stops.specs.kept_Tables.{IsTable}
+use Rattle.ctr_stops.proofs.kept_Tables.{carries_more, uses_more}
 use Rattle.ctr_rollback.specs.Keeping.{AreOthersTables}
-use Rattle.ctr_kept.specs.Walk.{Mind}
-use Rattle.ctr_kept.specs.Turns.{Start, KeepsRun, InTransaction, Carries, carrying, undoing_mind, scene_now}
+use Rattle.ctr_stops.specs.kept_Walk.{Mind}
+use Rattle.ctr_stops.specs.kept_Turns.{Start, KeepsRun, InTransaction, Carries, carrying, undoing_mind, scene_now}
 
 -- who carries nothing carries it by any locks
 pub carries_none : (x : ℕ) (t : Transaction) (site : Site) → Carries x t [] site

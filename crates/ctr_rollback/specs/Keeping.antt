@@ -2,10 +2,10 @@
 use Rattle.std.specs.Prelude.{◌≡◌, ◌≢◌, ℕ, ◌<◌, List, None}
 use Rattle.ctr_area.specs.Areas.{Title}
 use Rattle.ctr_area.specs.Sound.{IsAmong}
-use Rattle.ctr_actions.specs.Facts.{Fact, HasTable}
-use Rattle.ctr_kept.specs.Tables.{AreTables}
-use Rattle.ctr_kept.specs.Walk.{Mind}
-use Rattle.ctr_kept.specs.Turns.{Start, InTransaction}
+use Rattle.ctr_stops.specs.actions_Facts.{Fact, HasTable}
+use Rattle.ctr_stops.specs.kept_Tables.{AreTables}
+use Rattle.ctr_stops.specs.kept_Walk.{Mind}
+use Rattle.ctr_stops.specs.kept_Turns.{Start, InTransaction}
 
 -- The session has a number, and its transaction hasn't asked for its commit.
 pub record IsActiveWriter {c : Start} {w : Mind} {s : ℕ} (seat : InTransaction c w s) : Type 0 where

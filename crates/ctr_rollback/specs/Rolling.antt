@@ -5,10 +5,10 @@ use Rattle.ctr_disk.specs.declared.fault.StoreFault.{StoreFault}
 use Rattle.ctr_disk.specs.declared.fault.StoreFault.TheVariants.{Fault}
 use Rattle.ctr_rec.specs.declared.record.SlogItem.{SlogItem}
 use Rattle.ctr_meta.specs.Tables.{is_in}
-use Rattle.ctr_redo.specs.States.{State}
-use Rattle.ctr_record_effects.specs.Standing.{IsDatabaseState}
+use Rattle.ctr_page_turns.specs.redo_States.{State}
+use Rattle.ctr_page_turns.specs.record_effects_Standing.{IsDatabaseState}
 use Rattle.ctr_record_laws.specs.Owed.{IsLastItem}
-use Rattle.ctr_actions.specs.Actions.{Aborts, undoing, item_count}
+use Rattle.ctr_page_turns.specs.actions_Actions.{Aborts, undoing, item_count}
 use Rattle.ctr_txn.specs.Held.{TxnHeld, TxnsHeld, txn_of, IsWriting}
 use Rattle.ctr_txn.specs.Steps.{SetsTxn, txn_undoing}
 use Rattle.ctr_page_turns.specs.Acts.{ActsBy}

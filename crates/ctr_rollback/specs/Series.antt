@@ -1,8 +1,8 @@
 -- All turns of a rollback, with those of others between.
 use Rattle.std.specs.Prelude.{◌≡◌, ◌≢◌, ◌⊎◌, ℕ, ◌+◌, ◌≤◌, Bool, true, false, List, [], ◌∷◌, if◌then◌else◌}
 use Rattle.ctr_area.specs.Chains.{pages_bound}
-use Rattle.ctr_redo.specs.States.{State, counting}
-use Rattle.ctr_actions.specs.Actions.{Action}
+use Rattle.ctr_page_turns.specs.redo_States.{State, counting}
+use Rattle.ctr_page_turns.specs.actions_Actions.{Action}
 use Rattle.ctr_page_turns.specs.Acts.{ActsBy}
 use Rattle.ctr_rollback.specs.declared.rolling.Rolled.TheVariants.{Undone}
 use Rattle.ctr_rollback.specs.Rolling.{RollsTo}

@@ -4,31 +4,28 @@ ghost use Rattle.ctr_disk.specs.declared.fault.StoreFault.TheVariants.{Fault};
 ghost use Rattle.ctr_rec.specs.declared.record.Record.TheVariants.{Abort};
 ghost use Rattle.ctr_rec.specs.Members.{ItemFits};
 ghost use Rattle.ctr_meta.specs.Items.{is_item_by};
-ghost use Rattle.ctr_record_effects.specs.Standing.{IsDatabaseState};
+ghost use Rattle.ctr_page_turns.specs.record_effects_Standing.{IsDatabaseState};
 ghost use Rattle.ctr_record_laws.specs.Owed.{IsLastItem};
-ghost use Rattle.ctr_actions.specs.Sites.{site_of};
-ghost use Rattle.ctr_actions.specs.Actions.{Aborts, Owes, undoing};
-ghost use Rattle.ctr_base.specs.Base.{WhereSound};
-ghost use Rattle.ctr_walk.specs.OneRecord.{HasRoomForOne, LogsOne};
+ghost use Rattle.ctr_page_turns.specs.actions_Sites.{site_of};
+ghost use Rattle.ctr_page_turns.specs.actions_Actions.{Aborts, Owes, undoing};
+ghost use Rattle.ctr_page_turns.specs.base_Base.{WhereSound};
+ghost use Rattle.ctr_page_turns.specs.walk_OneRecord.{HasRoomForOne, LogsOne};
 ghost use Rattle.ctr_catalog.specs.Writing.{undo_record};
 ghost use Rattle.ctr_txn.specs.Held.{number_drawn};
 ghost use Rattle.ctr_txn.specs.Rooms.{HasItemRoom};
 ghost use Rattle.ctr_txn.specs.Calls.{MayEnd, IsOverStore, EndsFor};
 ghost use Rattle.ctr_page_turns.specs.Acts.{ActsBy};
 
-use ctr_actions::an_action_meets_its_needs;
-use ctr_base::Origin;
 use ctr_catalog::undo_item;
 use ctr_disk::{Disk, StoreFault};
 use ctr_meta::Meta;
-use ctr_page_turns::a_record_acts;
-use ctr_passed::{
-    owed_records_are_laid_as_their_actions, pages_lie_as_their_actions,
-    records_without_bytes_lie_as_their_actions,
+use ctr_page_turns::{
+    Origin, a_record_acts, an_action_meets_its_needs, owed_records_are_laid_as_their_actions,
+    pages_lie_as_their_actions, records_without_bytes_lie_as_their_actions,
 };
 use ctr_rec::SlogItem;
 use ctr_record_laws::pages_are_in_bounds;
-use ctr_store::Store;
+use ctr_stops::Store;
 use ctr_tally::Steps;
 use ctr_txn::Txns;
 use ctr_types::Xid;

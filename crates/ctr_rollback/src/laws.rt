@@ -2,13 +2,13 @@
 ghost use Rattle.std.specs.Prelude.{◌≡◌, ◌≢◌, ◌+◌, ◌*◌, ℕ, Bool, List};
 ghost use Rattle.ctr_types.specs.declared.tape.Act.TheVariants as act;
 ghost use Rattle.ctr_types.specs.declared.tape.Reply.TheVariants as reply;
-ghost use Rattle.ctr_redo.specs.States.{State};
-ghost use Rattle.ctr_record_effects.specs.Standing.{IsDatabaseState};
-ghost use Rattle.ctr_actions.specs.Actions.{Action, item_count};
-ghost use Rattle.ctr_actions.specs.Facts.{Fact};
-ghost use Rattle.ctr_store.specs.Store.{View};
-ghost use Rattle.ctr_kept.specs.Walk.{Mind, IsAtRollback};
-ghost use Rattle.ctr_kept.specs.Turns.{Start, InTransaction, Telling, MayCome, telling, undoing_mind, gone_mind, point_now};
+ghost use Rattle.ctr_page_turns.specs.redo_States.{State};
+ghost use Rattle.ctr_page_turns.specs.record_effects_Standing.{IsDatabaseState};
+ghost use Rattle.ctr_page_turns.specs.actions_Actions.{Action, item_count};
+ghost use Rattle.ctr_stops.specs.actions_Facts.{Fact};
+ghost use Rattle.ctr_stops.specs.store_Store.{View};
+ghost use Rattle.ctr_stops.specs.kept_Walk.{Mind, IsAtRollback};
+ghost use Rattle.ctr_stops.specs.kept_Turns.{Start, InTransaction, Telling, MayCome, telling, undoing_mind, gone_mind, point_now};
 ghost use Rattle.ctr_stops.specs.World.{KeepsWorld};
 ghost use Rattle.ctr_page_turns.specs.Turns.{LogsAtRest};
 ghost use Rattle.ctr_page_turns.specs.Acts.{ActsBy};
@@ -17,14 +17,16 @@ ghost use Rattle.ctr_rollback.specs.Rolling.{RollsTo, steps_of};
 ghost use Rattle.ctr_rollback.specs.Series.{LeadOn, its_turns};
 ghost use Rattle.ctr_rollback.specs.Keeping.{IsActiveWriter, AreOthersTables};
 
-use ctr_actions::{
-    an_undone_item_goes_alone, ones_own_action_leaves_what_is_held, what_is_done_stays,
-};
 use ctr_disk::Disk;
-use ctr_kept::{a_rollback_begins, a_rollback_ends, a_turn_without_an_entry_is_kept};
-use ctr_passed::a_sound_state_stays_sound;
+use ctr_page_turns::{
+    a_sound_state_stays_sound, an_undone_item_goes_alone, ones_own_action_leaves_what_is_held,
+    what_is_done_stays,
+};
 use ctr_record_laws::pages_are_in_bounds;
-use ctr_stops::{a_turn_of_a_world_is_kept, an_action_keeps_the_pages};
+use ctr_stops::{
+    a_rollback_begins, a_rollback_ends, a_turn_of_a_world_is_kept, a_turn_without_an_entry_is_kept,
+    an_action_keeps_the_pages,
+};
 
 /// A turn of a rollback keeps a World. With its first record the session is within its rollback, at a ROLLBACK that isn't answered yet, and
 /// it stays so with each further one; it may go on to count on tables that it didn't make. The mark is told on the tape, and with it the transaction is gone.

@@ -1,6 +1,6 @@
 // A turn of a rollback.
 ghost use Rattle.std.specs.Prelude.{OnOk};
-ghost use Rattle.ctr_base.specs.Base.{WhereSound};
+ghost use Rattle.ctr_page_turns.specs.base_Base.{WhereSound};
 ghost use Rattle.ctr_page_turns.specs.Turns.{LogsSome};
 ghost use Rattle.ctr_txn.specs.Held.{number_drawn};
 ghost use Rattle.ctr_txn.specs.Rooms.{HasItemRoom};
@@ -8,11 +8,10 @@ ghost use Rattle.ctr_txn.specs.Calls.{MayEnd, IsOverStore};
 ghost use Rattle.ctr_rollback.specs.Rolling.{MayRoll, EndsRoll, RollsTxns, TakesSteps};
 
 use crate::calls::{mark, next_item, undo};
-use ctr_actions::{the_latest_item_can_be_undone, what_is_held_pays};
-use ctr_base::Origin;
 use ctr_disk::{Disk, StoreFault};
+use ctr_page_turns::{Origin, the_latest_item_can_be_undone, what_is_held_pays};
 use ctr_record_laws::pages_are_in_bounds;
-use ctr_store::Store;
+use ctr_stops::Store;
 use ctr_tally::Steps;
 use ctr_txn::Txns;
 use std::sync::ledger::Ledger;

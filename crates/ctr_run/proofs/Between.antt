@@ -14,7 +14,7 @@ use Rattle.ctr_legal.proofs.Tapes.{final_append}
 use Rattle.ctr_model.specs.declared.tape.Point.{Point}
 use Rattle.ctr_model.specs.declared.tape.Progress.{Progress}
 use Rattle.ctr_model.specs.Tape.{at_start, final, progress_of, statements_of, statements_on, IsSerial}
-use Rattle.ctr_txn.specs.Held.{IsOneOfEight}
+use Rattle.ctr_world.specs.txn_Held.{IsOneOfEight}
 use Rattle.ctr_serial.specs.Lines.{count_in}
 use Rattle.ctr_serial.proofs.Lists.{count_front, count_mine, serial_front}
 use Rattle.ctr_world.proofs.ctr_exec.Places.{count_of, runner_of}

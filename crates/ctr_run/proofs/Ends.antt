@@ -17,10 +17,10 @@ use Rattle.ctr_model.specs.Tape.{Legal, at_start, final, progress_of, statements
 use Rattle.ctr_model.specs.Texts.{answers}
 use Rattle.ctr_redo.specs.States.{State}
 use Rattle.ctr_record_effects.specs.Standing.{StandsForDatabase}
-use Rattle.ctr_kept.specs.Turns.{start_point}
-use Rattle.ctr_stops.specs.Fronts.{rows_of_state}
-use Rattle.ctr_stops.specs.World.{starting}
-use Rattle.ctr_stops.specs.Stops.{HasFirstCommits, LeavesPrefixAt, LeftSince}
+use Rattle.ctr_world.specs.kept_Turns.{start_point}
+use Rattle.ctr_world.specs.stops_Fronts.{rows_of_state}
+use Rattle.ctr_world.specs.stops_World.{starting}
+use Rattle.ctr_world.specs.stops_Stops.{HasFirstCommits, LeavesPrefixAt, LeftSince}
 use Rattle.ctr_home.specs.Blocks.{value_of}
 use Rattle.ctr_home.specs.declared.block.Block.TheVariants.{Root as RootBlock}
 use Rattle.ctr_home.specs.declared.root.Root.{Root}

@@ -10,7 +10,7 @@ use Rattle.ctr_types.specs.declared.tape.Entry.{Entry}
 use Rattle.ctr_model.specs.declared.tape.Point.{Point}
 use Rattle.ctr_model.specs.declared.tape.Progress.{Progress}
 use Rattle.ctr_model.specs.Tape.{acts_of, advanced, final, passed, progress_of, statements_on, IsSerial}
-use Rattle.ctr_txn.specs.Held.{IsOneOfEight}
+use Rattle.ctr_world.specs.txn_Held.{IsOneOfEight}
 use Rattle.ctr_serial.specs.Lines.{count_in, HasLines, IsEntryOfLine}
 use Rattle.ctr_serial.proofs.Lists.{serial_front, line_more, count_mine, count_other}
 use Rattle.ctr_serial.proofs.Walking.{line_has}

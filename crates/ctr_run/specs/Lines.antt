@@ -7,7 +7,7 @@ use Rattle.ctr_types.specs.declared.tape.Actor.TheVariants as actor
 use Rattle.ctr_types.specs.declared.tape.Entry.{Entry}
 use Rattle.ctr_model.specs.declared.tape.Point.{Point}
 use Rattle.ctr_model.specs.Tape.{progress_of, IsSerial}
-use Rattle.ctr_txn.specs.Held.{IsOneOfEight}
+use Rattle.ctr_world.specs.txn_Held.{IsOneOfEight}
 use Rattle.ctr_serial.specs.Lines.{count_in, HasLines, IsEntryOfLine}
 use Rattle.ctr_world.specs.ctr_exec.declared.sessions.Sessions.{Sessions}
 use Rattle.ctr_world.specs.ctr_exec.Order.{led_from}

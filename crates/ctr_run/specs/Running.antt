@@ -15,7 +15,7 @@ use Rattle.ctr_area.specs.Images.{undo_size}
 use Rattle.ctr_area.specs.Sound.{IsAmong}
 use Rattle.ctr_redo.specs.States.{State}
 use Rattle.ctr_record_effects.specs.Standing.{StandsForDatabase}
-use Rattle.ctr_stops.specs.Stops.{HasFirstCommits}
+use Rattle.ctr_world.specs.stops_Stops.{HasFirstCommits}
 use Rattle.ctr_store.specs.Opening.{IsUndamaged}
 use Rattle.ctr_world.specs.declared.opening.Opening.{Ghosts as Opening}
 use Rattle.ctr_world.specs.World.{start_in, led_to, IsFullEntry, IsLegalTape, IsTapeOf, LeavesPrefix, StopsBy, IsUndamaged as GoesUndamaged}

@@ -15,8 +15,8 @@ use Rattle.std.specs.List.{list_any}
 use Rattle.ctr_area.specs.Areas.{Title}
 use Rattle.ctr_area.specs.Sound.{IsAmong}
 use Rattle.ctr_redo.specs.States.{State as Stored}
-use Rattle.ctr_record_effects.specs.States.{area_in}
-use Rattle.ctr_actions.specs.Facts.{Fact, HasTable}
+use Rattle.ctr_told.specs.record_effects_States.{area_in}
+use Rattle.ctr_told.specs.actions_Facts.{Fact, HasTable}
 use Rattle.ctr_locks.specs.Held.{LocksOfSession, held_by_session}
 use Rattle.ctr_locks.specs.Shows.{ShowsKeyLocks, IsTheSame}
 use Rattle.ctr_told.specs.Turning.{facts_idle}

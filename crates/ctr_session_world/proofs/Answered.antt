@@ -24,12 +24,12 @@ use Rattle.ctr_legal.specs.Ready.{TellsOf}
 use Rattle.ctr_versions.proofs.Keys.{known, some_is}
 use Rattle.ctr_meta.specs.Tables.{heads_at, is_in}
 use Rattle.ctr_area.specs.Sound.{IsAmong, xids_in}
-use Rattle.ctr_actions.specs.Facts.{Fact, IsOpen}
-use Rattle.ctr_actions.specs.Sites.{site_of}
-use Rattle.ctr_store.specs.Store.{View}
-use Rattle.ctr_kept.proofs.Walking.{keeps_reached}
-use Rattle.ctr_kept.specs.Walk.{Mind}
-use Rattle.ctr_kept.specs.Turns.{Start, entry_of, point_now, start_point, state_now}
+use Rattle.ctr_told.specs.actions_Facts.{Fact, IsOpen}
+use Rattle.ctr_told.specs.actions_Sites.{site_of}
+use Rattle.ctr_told.specs.store_Store.{View}
+use Rattle.ctr_told.proofs.kept_Walking.{keeps_reached}
+use Rattle.ctr_told.specs.kept_Walk.{Mind}
+use Rattle.ctr_told.specs.kept_Turns.{Start, entry_of, point_now, start_point, state_now}
 use Rattle.ctr_session_world.specs.World.{SessionsHeld, InWorld}
 use Rattle.ctr_session_world.specs.Told.{CountsBehind, CountsOnTables, IsIdleBy, IsIdleIn, IsNextOf, IsTold}
 use Rattle.ctr_session_world.proofs.Standing.{told_state}

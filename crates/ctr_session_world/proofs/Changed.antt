@@ -13,15 +13,15 @@ use Rattle.ctr_model.specs.State.{has_name, transaction_of}
 use Rattle.ctr_model.proofs.Sessions.{find-put-other, find-put-same}
 use Rattle.ctr_versions.proofs.Keys.{known, some_is}
 use Rattle.ctr_area.specs.Sound.{IsAmong}
-use Rattle.ctr_record_effects.specs.States.{area_in}
-use Rattle.ctr_actions.specs.Facts.{Fact, HasTable}
-use Rattle.ctr_store.specs.Store.{View}
+use Rattle.ctr_told.specs.record_effects_States.{area_in}
+use Rattle.ctr_told.specs.actions_Facts.{Fact, HasTable}
+use Rattle.ctr_told.specs.store_Store.{View}
 use Rattle.ctr_locks.specs.Held.{LocksOfSession, held_by_session, locks_key, session_locks}
 use Rattle.ctr_locks.specs.Shows.{ShowsKeyLocks}
-use Rattle.ctr_kept.specs.Walk.{Mind, with_facts}
-use Rattle.ctr_kept.specs.Turns.{Start, entry_of, state_now}
-use Rattle.ctr_stops.specs.World.{KeepsWorld}
-use Rattle.ctr_txn.specs.Held.{TxnsHeld, run_of}
+use Rattle.ctr_told.specs.kept_Walk.{Mind, with_facts}
+use Rattle.ctr_told.specs.kept_Turns.{Start, entry_of, state_now}
+use Rattle.ctr_told.specs.stops_World.{KeepsWorld}
+use Rattle.ctr_told.specs.txn_Held.{TxnsHeld, run_of}
 use Rattle.ctr_session_world.specs.World.{SessionsHeld, IsInTable, AreInTables, names_in, AreInOrder}
 use Rattle.ctr_session_world.specs.Told.{CountsBehind, IsNextOf, IsTold}
 use Rattle.ctr_session_world.proofs.Alike.{in_table_still, put_in_order}

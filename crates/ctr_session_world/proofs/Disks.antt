@@ -9,11 +9,11 @@ use Rattle.ctr_disk.specs.declared.fault.StoreFault.TheVariants.{Fault, Damaged}
 use Rattle.ctr_base.specs.Base.{IsSoundImage, WhereSound}
 use Rattle.ctr_meta.specs.Kept.{TablesKept}
 use Rattle.ctr_rec.specs.declared.record.Record.{Record}
-use Rattle.ctr_store.specs.Store.{View, LeavesFront, LeavesPage}
-use Rattle.ctr_walk.specs.Damage.{ReadsPages}
-use Rattle.ctr_walk.specs.OneRecord.{LogsOne}
-use Rattle.ctr_walk.proofs.Joins.{fronts_join, logs_join}
-use Rattle.ctr_page_turns.specs.Turns.{Turns, Reads, LogsARecord, Grows as GrowsBehind}
+use Rattle.ctr_told.specs.store_Store.{View, LeavesFront, LeavesPage}
+use Rattle.ctr_told.specs.walk_Damage.{ReadsPages}
+use Rattle.ctr_told.specs.walk_OneRecord.{LogsOne}
+use Rattle.ctr_told.proofs.walk_Joins.{fronts_join, logs_join}
+use Rattle.ctr_told.specs.page_turns_Turns.{Turns, Reads, LogsARecord, Grows as GrowsBehind}
 use Rattle.ctr_session_world.specs.Ready.{LeavesDisk, LeavesFrontOrGrows, Front, Grows}
 use Rattle.ctr_session_world.proofs.Faults.{fault_done, fault_failed, fault_none, fault_then}
 use Rattle.ctr_session_world.proofs.Going.{rests_read}

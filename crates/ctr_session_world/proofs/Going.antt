@@ -5,17 +5,17 @@ use Rattle.ctr_disk.specs.Image.{Image}
 use Rattle.ctr_disk.specs.declared.fault.StoreFault.{StoreFault}
 use Rattle.ctr_disk.specs.declared.fault.StoreFault.TheVariants.{Fault, Damaged}
 use Rattle.ctr_base.specs.Base.{IsSoundImage}
-use Rattle.ctr_walk.specs.Damage.{ReadsPages}
+use Rattle.ctr_told.specs.walk_Damage.{ReadsPages}
 use Rattle.std.specs.Prelude.{IfOk, IsTrue, OnOk}
 use Rattle.ctr_types.specs.declared.statement.Statement.{Statement}
 use Rattle.ctr_types.specs.declared.tape.Act.{Act}
 use Rattle.ctr_types.specs.declared.tape.Reply.{Reply}
 use Rattle.ctr_redo.specs.States.{State as Stored}
-use Rattle.ctr_store.specs.Store.{View, KeepsRoom, LeavesFront, LeavesPage}
+use Rattle.ctr_told.specs.store_Store.{View, KeepsRoom, LeavesFront, LeavesPage}
 use Rattle.ctr_locks.specs.Shows.{ShowsKeyLocks}
-use Rattle.ctr_kept.specs.Turns.{Start, state_now}
-use Rattle.ctr_stops.specs.World.{KeepsWorld}
-use Rattle.ctr_page_turns.specs.Turns.{RestsBehind}
+use Rattle.ctr_told.specs.kept_Turns.{Start, state_now}
+use Rattle.ctr_told.specs.stops_World.{KeepsWorld}
+use Rattle.ctr_told.specs.page_turns_Turns.{RestsBehind}
 use Rattle.ctr_session_world.specs.World.{SessionsHeld, AreInTables, NamesStay, names_in}
 use Rattle.ctr_session_world.specs.Told.{IsNextOf, IsTold}
 

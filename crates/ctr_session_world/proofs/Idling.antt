@@ -1,11 +1,11 @@
 -- What a session counts on between two of its statements, in a World: by the model, and by the program.
 use Rattle.std.proofs.Common.{inl, inr, ℕ, List, [], subst}
 use Rattle.ctr_disk.specs.declared.disk.Disk.{Ghosts}
-use Rattle.ctr_actions.specs.Facts.{Fact}
-use Rattle.ctr_store.specs.Store.{View}
+use Rattle.ctr_told.specs.actions_Facts.{Fact}
+use Rattle.ctr_told.specs.store_Store.{View}
 use Rattle.ctr_versions.proofs.Keys.{known}
-use Rattle.ctr_kept.specs.Turns.{Start, InTransaction}
-use Rattle.ctr_kept.specs.Walk.{Mind}
+use Rattle.ctr_told.specs.kept_Turns.{Start, InTransaction}
+use Rattle.ctr_told.specs.kept_Walk.{Mind}
 use Rattle.ctr_told.specs.Turning.{IsIdle}
 use Rattle.ctr_session_world.specs.World.{SessionsHeld, InWorld}
 use Rattle.ctr_session_world.specs.Told.{IsIdleBy, IsIdleIn}

@@ -3,13 +3,13 @@ use Rattle.std.proofs.Common.{◌<◌, ◌≤◌, ℕ, ◌∙◌, ap, subst, ari
 use Rattle.ctr_disk.specs.declared.disk.Disk.{Ghosts}
 use Rattle.ctr_redo.specs.States.{State, grown}
 use Rattle.ctr_area.specs.Chains.{pages_bound}
-use Rattle.ctr_store.specs.Store.{View, LeavesFront, LeavesGrowing}
-use Rattle.ctr_kept.specs.Turns.{Start}
-use Rattle.ctr_kept.specs.Walk.{Mind}
-use Rattle.ctr_page_turns.specs.Turns.{RestsBehind}
-use Rattle.ctr_stops.specs.Stops.{KeepsCommits, LeavesPrefixAt, LeftSince}
-use Rattle.ctr_stops.specs.World.{KeepsWorld, course_of}
-use Rattle.ctr_stops.proofs.Fronts.{steps_counted}
+use Rattle.ctr_told.specs.store_Store.{View, LeavesFront, LeavesGrowing}
+use Rattle.ctr_told.specs.kept_Turns.{Start}
+use Rattle.ctr_told.specs.kept_Walk.{Mind}
+use Rattle.ctr_told.specs.page_turns_Turns.{RestsBehind}
+use Rattle.ctr_told.specs.stops_Stops.{KeepsCommits, LeavesPrefixAt, LeftSince}
+use Rattle.ctr_told.specs.stops_World.{KeepsWorld, course_of}
+use Rattle.ctr_told.proofs.stops_Fronts.{steps_counted}
 use Rattle.ctr_session_world.specs.Ready.{LeavesFrontOrGrows, Front, Grows}
 
 -- where fewer than all pages are counted, a growth counts no less, and no more than there may be

@@ -1,7 +1,7 @@
 -- A session that has drawn its number, or hasn't.
 use Rattle.std.proofs.Common.{◌≡◌, ◌⊎◌, inl, inr, ℕ, zero, suc, ◌<◌, List, ◌++◌, refl, arith}
-use Rattle.ctr_actions.specs.Facts.{Fact}
-use Rattle.ctr_kept.specs.Tables.{AreTables}
+use Rattle.ctr_told.specs.actions_Facts.{Fact}
+use Rattle.ctr_told.specs.kept_Tables.{AreTables}
 use Rattle.ctr_told.specs.Turning.{facts_idle, IsIdle}
 
 pub none_or_some : (n : ℕ) → (n ≡ 0) ⊎ (0 < n)

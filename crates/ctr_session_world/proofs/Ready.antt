@@ -9,12 +9,12 @@ use Rattle.ctr_disk.specs.declared.fault.StoreFault.{StoreFault}
 use Rattle.ctr_rec.specs.declared.record.Record.{Record}
 use Rattle.ctr_meta.specs.Kept.{RoomLeft, TablesKept}
 use Rattle.ctr_redo.specs.States.{grown}
-use Rattle.ctr_store.specs.Store.{KeepsRoom, TakesRecord, View}
-use Rattle.ctr_txn.specs.Held.{IsOneOfEight, TxnHeld, TxnsHeld, txn_of}
-use Rattle.ctr_txn.specs.Numbered.{NumbersHeld}
-use Rattle.ctr_txn.specs.Rooms.{HasItemRoom, StaysRoom}
-use Rattle.ctr_txn.specs.Steps.{SetsTxn}
-use Rattle.ctr_page_turns.specs.Turns.{Turns, Reads, LogsARecord, Grows}
+use Rattle.ctr_told.specs.store_Store.{KeepsRoom, TakesRecord, View}
+use Rattle.ctr_told.specs.txn_Held.{IsOneOfEight, TxnHeld, TxnsHeld, txn_of}
+use Rattle.ctr_told.specs.txn_Numbered.{NumbersHeld}
+use Rattle.ctr_told.specs.txn_Rooms.{HasItemRoom, StaysRoom}
+use Rattle.ctr_told.specs.txn_Steps.{SetsTxn}
+use Rattle.ctr_told.specs.page_turns_Turns.{Turns, Reads, LogsARecord, Grows}
 use Rattle.ctr_session_world.specs.Ready.{LeavesOver, LeavesReady, StandOver, StaysUnasked, is_asking}
 
 -- ---- numbers

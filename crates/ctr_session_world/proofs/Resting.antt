@@ -9,16 +9,16 @@ use Rattle.ctr_types.specs.declared.tape.Refusal.{Refusal}
 use Rattle.ctr_types.specs.declared.tape.Reply.TheVariants as reply
 use Rattle.ctr_model.specs.declared.state.State.{State}
 use Rattle.ctr_redo.specs.States.{State as Stored}
-use Rattle.ctr_store.specs.Store.{View, LeavesFront}
+use Rattle.ctr_told.specs.store_Store.{View, LeavesFront}
 use Rattle.ctr_meta.specs.Kept.{TablesKept}
 use Rattle.ctr_locks.specs.Held.{LocksOfSession, OfSession, SameHeld, locks_key, session_locks}
 use Rattle.ctr_locks.specs.Shows.{ShowsKeyLocks}
-use Rattle.ctr_txn.specs.Held.{run_of}
+use Rattle.ctr_told.specs.txn_Held.{run_of}
 use Rattle.ctr_versions.proofs.Keys.{known}
-use Rattle.ctr_kept.specs.Turns.{Start, state_now, telling}
-use Rattle.ctr_kept.specs.Walk.{Mind}
-use Rattle.ctr_stops.specs.World.{KeepsWorld}
-use Rattle.ctr_page_turns.specs.Turns.{RestsBehind}
+use Rattle.ctr_told.specs.kept_Turns.{Start, state_now, telling}
+use Rattle.ctr_told.specs.kept_Walk.{Mind}
+use Rattle.ctr_told.specs.stops_World.{KeepsWorld}
+use Rattle.ctr_told.specs.page_turns_Turns.{RestsBehind}
 use Rattle.ctr_session_world.specs.World.{SessionsHeld, names_in, AreInTables, AreInOrder, InWorld}
 use Rattle.ctr_session_world.specs.Told.{IsNextOf, IsTold}
 use Rattle.ctr_session_world.proofs.Standing.{refused_state, told_state}

@@ -18,11 +18,11 @@ use Rattle.ctr_model.specs.Reply.{next_from, next_state}
 use Rattle.ctr_model.specs.State.{transaction_of}
 use Rattle.ctr_model.specs.Tape.{acts_of, final, Allowed, IsActOf, IsInTurn}
 use Rattle.ctr_legal.proofs.Reached.{final_push}
-use Rattle.ctr_store.specs.Store.{View}
-use Rattle.ctr_kept.specs.Walk.{Mind}
-use Rattle.ctr_kept.specs.Turns.{Start, InTransaction, MayCome, entry_of, point_now, start_point, state_now}
-use Rattle.ctr_paged.specs.Paged.{Run}
-use Rattle.ctr_txn.specs.Held.{TxnHeld, TxnsHeld, IsOneOfEight, run_of, txn_of}
+use Rattle.ctr_told.specs.store_Store.{View}
+use Rattle.ctr_told.specs.kept_Walk.{Mind}
+use Rattle.ctr_told.specs.kept_Turns.{Start, InTransaction, MayCome, entry_of, point_now, start_point, state_now}
+use Rattle.ctr_told.specs.paged_Paged.{Run}
+use Rattle.ctr_told.specs.txn_Held.{TxnHeld, TxnsHeld, IsOneOfEight, run_of, txn_of}
 use Rattle.ctr_session_world.specs.World.{SessionsHeld}
 use Rattle.ctr_session_world.specs.Told.{IsNextOf}
 

@@ -7,12 +7,12 @@ use Rattle.ctr_disk.specs.declared.fault.StoreFault.TheVariants.{Fault}
 use Rattle.ctr_types.specs.Faults.{HasFault}
 use Rattle.ctr_base.specs.declared.growing.TheConstants.{MOST_PAGES}
 use Rattle.ctr_base.specs.Base.{WhereSound}
-use Rattle.ctr_store.specs.Store.{View, LeavesFront, LeavesGrowing}
-use Rattle.ctr_walk.specs.OneRecord.{HasRoomForOne}
-use Rattle.ctr_txn.specs.Held.{TxnHeld, TxnsHeld, IsOneOfEight, txn_of}
-use Rattle.ctr_txn.specs.Calls.{IsOverStore}
-use Rattle.ctr_txn.specs.Rooms.{HasItemRoom}
-use Rattle.ctr_page_turns.specs.Turns.{RestsBehind}
+use Rattle.ctr_told.specs.store_Store.{View, LeavesFront, LeavesGrowing}
+use Rattle.ctr_told.specs.walk_OneRecord.{HasRoomForOne}
+use Rattle.ctr_told.specs.txn_Held.{TxnHeld, TxnsHeld, IsOneOfEight, txn_of}
+use Rattle.ctr_told.specs.txn_Calls.{IsOverStore}
+use Rattle.ctr_told.specs.txn_Rooms.{HasItemRoom}
+use Rattle.ctr_told.specs.page_turns_Turns.{RestsBehind}
 
 -- Transactions stand over a store: they draw the numbers that its tables expect, and there is room
 -- for each item of the secondary log that is kept for one of them.

@@ -8,11 +8,11 @@ use Rattle.ctr_types.specs.declared.tape.Reply.TheVariants as reply
 use Rattle.ctr_model.specs.declared.state.Transaction.{Transaction}
 use Rattle.ctr_model.specs.State.{transaction_of}
 use Rattle.ctr_model.specs.Tape.{progress_of}
-use Rattle.ctr_actions.specs.Facts.{Fact}
-use Rattle.ctr_store.specs.Store.{View}
-use Rattle.ctr_kept.specs.Tables.{AreTables}
-use Rattle.ctr_kept.specs.Walk.{Mind}
-use Rattle.ctr_kept.specs.Turns.{Start, Telling, entry_of, point_now, state_now}
+use Rattle.ctr_told.specs.actions_Facts.{Fact}
+use Rattle.ctr_told.specs.store_Store.{View}
+use Rattle.ctr_told.specs.kept_Tables.{AreTables}
+use Rattle.ctr_told.specs.kept_Walk.{Mind}
+use Rattle.ctr_told.specs.kept_Turns.{Start, Telling, entry_of, point_now, state_now}
 use Rattle.ctr_told.specs.Turning.{facts_idle}
 use Rattle.ctr_session_world.specs.World.{SessionsHeld, InWorld, NamesStay}
 

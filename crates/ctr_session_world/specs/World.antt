@@ -8,15 +8,15 @@ use Rattle.ctr_model.specs.declared.state.Transaction.{Transaction}
 use Rattle.ctr_model.specs.State.{has_name, transaction_of}
 use Rattle.ctr_area.specs.Sound.{IsAmong}
 use Rattle.ctr_redo.specs.States.{State as Stored}
-use Rattle.ctr_record_effects.specs.States.{area_in}
-use Rattle.ctr_actions.specs.Facts.{Fact, HasTable}
-use Rattle.ctr_store.specs.Store.{View}
-use Rattle.ctr_kept.specs.Walk.{Mind}
-use Rattle.ctr_kept.specs.Turns.{Start, state_now}
-use Rattle.ctr_stops.specs.World.{KeepsWorld}
+use Rattle.ctr_told.specs.record_effects_States.{area_in}
+use Rattle.ctr_told.specs.actions_Facts.{Fact, HasTable}
+use Rattle.ctr_told.specs.store_Store.{View}
+use Rattle.ctr_told.specs.kept_Walk.{Mind}
+use Rattle.ctr_told.specs.kept_Turns.{Start, state_now}
+use Rattle.ctr_told.specs.stops_World.{KeepsWorld}
 use Rattle.ctr_locks.specs.Held.{LocksOfSession, session_locks}
 use Rattle.ctr_locks.specs.Shows.{ShowsKeyLocks}
-use Rattle.ctr_txn.specs.Held.{TxnsHeld, run_of}
+use Rattle.ctr_told.specs.txn_Held.{TxnsHeld, run_of}
 
 -- the transactions of sessions, and their locks
 pub record SessionsHeld : Type 0 where

@@ -1,13 +1,12 @@
 // A World behind pages that were read. A call does nothing: what it ensures is the law.
-ghost use Rattle.ctr_store.specs.Store.{View};
-ghost use Rattle.ctr_kept.specs.Walk.{Mind};
-ghost use Rattle.ctr_kept.specs.Turns.{Start};
-ghost use Rattle.ctr_stops.specs.World.{KeepsWorld};
-ghost use Rattle.ctr_page_turns.specs.Turns.{RestsBehind};
+ghost use Rattle.ctr_told.specs.store_Store.{View};
+ghost use Rattle.ctr_told.specs.kept_Walk.{Mind};
+ghost use Rattle.ctr_told.specs.kept_Turns.{Start};
+ghost use Rattle.ctr_told.specs.stops_World.{KeepsWorld};
+ghost use Rattle.ctr_told.specs.page_turns_Turns.{RestsBehind};
 
 use ctr_disk::Disk;
-use ctr_kept::time_and_growth_are_kept;
-use ctr_stops::a_turn_of_a_world_is_kept;
+use ctr_told::{a_turn_of_a_world_is_kept, time_and_growth_are_kept};
 
 /// Pages that are read keep a World.
 pub fn pages_that_are_read_keep_a_world<D: Disk>()

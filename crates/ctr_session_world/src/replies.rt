@@ -5,8 +5,8 @@ ghost use Rattle.ctr_types.specs.declared.tape.Act.{Act};
 ghost use Rattle.ctr_types.specs.declared.tape.Act.TheVariants as act;
 ghost use Rattle.ctr_types.specs.declared.tape.Reply.{Reply};
 ghost use Rattle.ctr_types.specs.declared.tape.Reply.TheVariants as reply;
-ghost use Rattle.ctr_store.specs.Store.{View};
-ghost use Rattle.ctr_kept.specs.Turns.{Start};
+ghost use Rattle.ctr_told.specs.store_Store.{View};
+ghost use Rattle.ctr_told.specs.kept_Turns.{Start};
 ghost use Rattle.ctr_session_world.specs.World.{SessionsHeld};
 ghost use Rattle.ctr_session_world.specs.Told.{CountsOnTables, IsIdleIn, IsNextOf, IsTold};
 

@@ -4,3 +4,4 @@ pub mod Laws
 pub mod Steps
 pub mod Cleaning
 pub mod Views
+pub use Rattle.ctr_legal.specs.Kept as legal_Kept

@@ -7,16 +7,16 @@ use Rattle.std.proofs.lemmas.Bool.{false≢true, eq-eqb}
 use Rattle.ctr_versions.proofs.Keys.{known}
 use Rattle.ctr_versions.specs.Engine.{SessionHeld}
 use Rattle.ctr_versions.specs.Laws.{IsNoSessions}
-use Rattle.ctr_page.specs.declared.header.Header.{Header}
-use Rattle.ctr_area.specs.Chains.{pages_bound}
-use Rattle.ctr_area.specs.Sound.{IsAmong}
-use Rattle.ctr_redo.specs.States.{State, counting}
-use Rattle.ctr_record_effects.specs.States.{pages_in, area_in}
-use Rattle.ctr_record_effects.specs.Standing.{IsDatabaseState}
-use Rattle.ctr_actions.specs.Sites.{site_of}
-use Rattle.ctr_actions.specs.Actions.{Action}
-use Rattle.ctr_actions.specs.Records.{Does}
-use Rattle.ctr_actions.specs.Facts.{Fact, HasPage, HasBlank, HoldsFact, IsBeside}
+use Rattle.ctr_passed.specs.page_Header.{Header}
+use Rattle.ctr_passed.specs.area_Chains.{pages_bound}
+use Rattle.ctr_passed.specs.area_Sound.{IsAmong}
+use Rattle.ctr_store.specs.redo_States.{State, counting}
+use Rattle.ctr_passed.specs.record_effects_States.{pages_in, area_in}
+use Rattle.ctr_passed.specs.record_effects_Standing.{IsDatabaseState}
+use Rattle.ctr_passed.specs.actions_Sites.{site_of}
+use Rattle.ctr_passed.specs.actions_Actions.{Action}
+use Rattle.ctr_passed.specs.actions_Records.{Does}
+use Rattle.ctr_passed.specs.actions_Facts.{Fact, HasPage, HasBlank, HoldsFact, IsBeside}
 use Rattle.ctr_passed.specs.Laid.{LiesAs}
 use Rattle.ctr_passed.specs.Logged.{IsBlankPage}
 use Rattle.ctr_kept.specs.Walk.{Mind, with_facts}

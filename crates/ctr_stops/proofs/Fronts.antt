@@ -6,14 +6,14 @@ use Rattle.ctr_disk.specs.Image.{Image}
 use Rattle.ctr_rec.specs.declared.record.Record.{Record}
 use Rattle.ctr_model.specs.declared.database.Change.{Change}
 use Rattle.ctr_model.specs.Database.{Database, after_all}
-use Rattle.ctr_area.specs.Chains.{pages_bound}
-use Rattle.ctr_redo.specs.States.{State, step, steps, counting, grown}
-use Rattle.ctr_redo.specs.Images.{FoldsTo, FoldsFront, FoldsGrown}
-use Rattle.ctr_record_effects.specs.Standing.{IsDatabaseState}
+use Rattle.ctr_passed.specs.area_Chains.{pages_bound}
+use Rattle.ctr_store.specs.redo_States.{State, step, steps, counting, grown}
+use Rattle.ctr_store.specs.redo_Images.{FoldsTo, FoldsFront, FoldsGrown}
+use Rattle.ctr_passed.specs.record_effects_Standing.{IsDatabaseState}
 use Rattle.ctr_store.specs.Store.{View, Logs}
-use Rattle.ctr_actions.specs.Sites.{site_of}
-use Rattle.ctr_paged.specs.Shown.{Scene, IsShown}
-use Rattle.ctr_paged.proofs.Opened.{image_shows}
+use Rattle.ctr_passed.specs.actions_Sites.{site_of}
+use Rattle.ctr_kept.specs.ctr_paged.Shown.{Scene, IsShown}
+use Rattle.ctr_kept.proofs.paged_Opened.{image_shows}
 use Rattle.ctr_passed.proofs.Sound.{sound_grown}
 use Rattle.ctr_stops.specs.Fronts.{HasFirst, HasFronts}
 use Rattle.ctr_stops.specs.Stops.{HasFirstCommits}

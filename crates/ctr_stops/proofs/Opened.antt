@@ -7,11 +7,11 @@ use Rattle.ctr_home.specs.declared.block.Block.TheVariants.{Root as RootBlock}
 use Rattle.ctr_home.specs.Blocks.{value_of}
 use Rattle.ctr_home.specs.declared.root.Root.{Root}
 use Rattle.ctr_home.specs.Roots.{SaysRoot}
-use Rattle.ctr_redo.specs.States.{State, state_of, steps}
-use Rattle.ctr_redo.specs.Images.{FoldsTo, stored_in}
-use Rattle.ctr_record_effects.specs.Standing.{StandsForDatabase}
-use Rattle.ctr_base.specs.Base.{IsSoundImage}
-use Rattle.ctr_base.proofs.RootLaws.{one_root}
+use Rattle.ctr_store.specs.redo_States.{State, state_of, steps}
+use Rattle.ctr_store.specs.redo_Images.{FoldsTo, stored_in}
+use Rattle.ctr_passed.specs.record_effects_Standing.{StandsForDatabase}
+use Rattle.ctr_store.specs.base_Base.{IsSoundImage}
+use Rattle.ctr_store.proofs.base_RootLaws.{one_root}
 use Rattle.ctr_store.specs.Opening.{LeavesFirst}
 use Rattle.ctr_store.specs.Store.{View}
 use Rattle.ctr_store.specs.StoreOpening.{OpensStore}

@@ -10,7 +10,7 @@ use Rattle.ctr_model.specs.declared.database.Change.{Change}
 use Rattle.ctr_model.specs.Database.{Database, after_all}
 use Rattle.ctr_model.specs.Tape.{answered_by}
 use Rattle.ctr_model.specs.Texts.{answers}
-use Rattle.ctr_legal.proofs.Answered.{order, answered_before, answered_at_most}
+use Rattle.ctr_kept.proofs.legal_Answered.{order, answered_before, answered_at_most}
 use Rattle.ctr_stops.specs.Stops.{StandsForRows, HasFirstCommits, NoEntryBy, LeavesPrefixAt, LeftSince}
 
 none_more : (t m : ℕ) (es more : List Entry) → NoEntryBy t es → t < m → AllByRecursion (λ (e : Entry). e.moment ≡ m) more → NoEntryBy t (es ++ more)

@@ -9,12 +9,12 @@ use Rattle.ctr_model.specs.declared.tape.Point.{Point}
 use Rattle.ctr_model.specs.Laws.{StatesGrow}
 use Rattle.ctr_model.specs.Tape.{final}
 use Rattle.ctr_model.specs.Texts.{answers}
-use Rattle.ctr_legal.proofs.Tapes.{final_append, base_on, asked_on, answers_on}
-use Rattle.ctr_area.specs.Chains.{pages_bound}
+use Rattle.ctr_kept.proofs.legal_Tapes.{final_append, base_on, asked_on, answers_on}
+use Rattle.ctr_passed.specs.area_Chains.{pages_bound}
 use Rattle.ctr_rec.specs.declared.record.Record.{Record}
-use Rattle.ctr_redo.specs.States.{State as Folded, counting, grown}
+use Rattle.ctr_store.specs.redo_States.{State as Folded, counting, grown}
 use Rattle.ctr_store.specs.Store.{View, LeavesFront, LeavesGrowing, GrowsByExtent, Logs}
-use Rattle.ctr_actions.specs.Sites.{site_of}
+use Rattle.ctr_passed.specs.actions_Sites.{site_of}
 use Rattle.ctr_kept.specs.Walk.{Mind}
 use Rattle.ctr_kept.specs.Turns.{Start, KeepsRun, AnswersEach, start_point, point_now, state_now, scene_now}
 use Rattle.ctr_kept.proofs.Walking.{keeps_reached}
@@ -22,10 +22,10 @@ use Rattle.ctr_kept.proofs.RecoveryTurns.{later_turn, grown_turn}
 use Rattle.ctr_stops.specs.Pages.{HoldsPages, CountsOnNoMore}
 use Rattle.ctr_stops.specs.Stops.{KeepsCommits, ShowsAll, NotesAt}
 use Rattle.ctr_types.specs.declared.statement.Line.{Line}
-use Rattle.ctr_area.specs.Images.{undo_size}
-use Rattle.ctr_record_effects.specs.States.{pages_in, area_in}
-use Rattle.ctr_record_effects.specs.Standing.{IsDatabaseState, StandsForDatabase}
-use Rattle.ctr_record_laws.proofs.Bounds.{pages_bounded}
+use Rattle.ctr_passed.specs.area_Images.{undo_size}
+use Rattle.ctr_passed.specs.record_effects_States.{pages_in, area_in}
+use Rattle.ctr_passed.specs.record_effects_Standing.{IsDatabaseState, StandsForDatabase}
+use Rattle.ctr_passed.proofs.record_laws_Bounds.{pages_bounded}
 use Rattle.ctr_kept.specs.ctr_names.Held.{names_of_items}
 use Rattle.ctr_store.specs.Opening.{LeavesFirst}
 use Rattle.ctr_store.specs.StoreOpening.{OpensStore}

@@ -7,10 +7,10 @@ use Rattle.ctr_disk.specs.Image.{Image}
 use Rattle.ctr_disk.specs.declared.disk.Disk.{Ghosts}
 use Rattle.ctr_model.specs.declared.database.Change.{Change}
 use Rattle.ctr_model.specs.Texts.{answers}
-use Rattle.ctr_area.specs.Chains.{pages_bound}
+use Rattle.ctr_passed.specs.area_Chains.{pages_bound}
 use Rattle.ctr_rec.specs.declared.record.Record.{Record}
-use Rattle.ctr_redo.specs.States.{counting, grown}
-use Rattle.ctr_redo.specs.Images.{FoldsFront, FoldsGrown}
+use Rattle.ctr_store.specs.redo_States.{counting, grown}
+use Rattle.ctr_store.specs.redo_Images.{FoldsFront, FoldsGrown}
 use Rattle.ctr_store.specs.Store.{View, LeavesFront, LeavesGrowing, GrowsByExtent, Logs}
 use Rattle.ctr_stops.specs.Fronts.{HasFirst, HasFronts}
 use Rattle.ctr_stops.specs.Stops.{HasFirstCommits, Course, asking_more, KeepsCommits, ShowsAll, NotesAt, LeavesPrefixAt, LeftSince}

@@ -3,10 +3,10 @@
 use Rattle.std.specs.Prelude.{◌≡◌, ℕ, ◌≤◌, List, length, take}
 use Rattle.ctr_model.specs.declared.database.Change.{Change}
 use Rattle.ctr_model.specs.Database.{Database, after_all}
-use Rattle.ctr_area.specs.Images.{is_committed_in, image_rows}
-use Rattle.ctr_redo.specs.States.{State, steps}
-use Rattle.ctr_record_effects.specs.States.{area_in}
-use Rattle.ctr_record_effects.specs.Standing.{IsDatabaseState}
+use Rattle.ctr_passed.specs.area_Images.{is_committed_in, image_rows}
+use Rattle.ctr_store.specs.redo_States.{State, steps}
+use Rattle.ctr_passed.specs.record_effects_States.{area_in}
+use Rattle.ctr_passed.specs.record_effects_Standing.{IsDatabaseState}
 use Rattle.ctr_store.specs.Store.{View}
 
 -- the rows of a state of pages and tables

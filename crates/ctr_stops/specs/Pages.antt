@@ -3,12 +3,12 @@ use Rattle.std.specs.Prelude.{◌≡◌, ◌⊎◌, ℕ, ◌==◌, false, List, 
 use Rattle.std.specs.Ordering.{nat_cmp}
 use Rattle.std.specs.FinMap.Entries.{find}
 use Rattle.ctr_versions.specs.Engine.{SessionHeld}
-use Rattle.ctr_page.specs.declared.header.Header.{Header}
-use Rattle.ctr_area.specs.Sound.{IsAmong}
-use Rattle.ctr_redo.specs.States.{State}
-use Rattle.ctr_record_effects.specs.Standing.{IsDatabaseState}
-use Rattle.ctr_actions.specs.Actions.{Action}
-use Rattle.ctr_actions.specs.Facts.{Fact, HasBlank, IsBeside}
+use Rattle.ctr_passed.specs.page_Header.{Header}
+use Rattle.ctr_passed.specs.area_Sound.{IsAmong}
+use Rattle.ctr_store.specs.redo_States.{State}
+use Rattle.ctr_passed.specs.record_effects_Standing.{IsDatabaseState}
+use Rattle.ctr_passed.specs.actions_Actions.{Action}
+use Rattle.ctr_passed.specs.actions_Facts.{Fact, HasBlank, IsBeside}
 use Rattle.ctr_passed.specs.Logged.{IsBlankPage}
 use Rattle.ctr_kept.specs.Walk.{Mind}
 

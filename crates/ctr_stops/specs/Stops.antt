@@ -8,11 +8,11 @@ use Rattle.ctr_model.specs.declared.database.Change.{Change}
 use Rattle.ctr_model.specs.Database.{Database, after_all}
 use Rattle.ctr_model.specs.Tape.{answered_by}
 use Rattle.ctr_model.specs.Texts.{answers}
-use Rattle.ctr_redo.specs.States.{State}
-use Rattle.ctr_record_effects.specs.Standing.{IsDatabaseState, StandsForDatabase}
+use Rattle.ctr_store.specs.redo_States.{State}
+use Rattle.ctr_passed.specs.record_effects_Standing.{IsDatabaseState, StandsForDatabase}
 use Rattle.ctr_store.specs.Store.{View}
-use Rattle.ctr_actions.specs.Sites.{site_of}
-use Rattle.ctr_paged.specs.Shown.{Scene, IsShown}
+use Rattle.ctr_passed.specs.actions_Sites.{site_of}
+use Rattle.ctr_kept.specs.ctr_paged.Shown.{Scene, IsShown}
 use Rattle.ctr_stops.specs.Fronts.{rows_of_state, HasFronts}
 
 -- the image stands for a database with these rows

@@ -2,12 +2,12 @@
 use Rattle.std.specs.Prelude.{ℕ, List}
 use Rattle.ctr_types.specs.declared.statement.Line.{Line}
 use Rattle.ctr_disk.specs.declared.disk.Disk.{Ghosts}
-use Rattle.ctr_area.specs.Images.{undo_size}
-use Rattle.ctr_redo.specs.States.{State}
-use Rattle.ctr_record_effects.specs.States.{area_in}
+use Rattle.ctr_passed.specs.area_Images.{undo_size}
+use Rattle.ctr_store.specs.redo_States.{State}
+use Rattle.ctr_passed.specs.record_effects_States.{area_in}
 use Rattle.ctr_store.specs.Store.{View, LeavesFront}
 use Rattle.ctr_kept.specs.ctr_names.Held.{names_of_items}
-use Rattle.ctr_actions.specs.Sites.{site_of}
+use Rattle.ctr_passed.specs.actions_Sites.{site_of}
 use Rattle.ctr_kept.specs.Walk.{Mind}
 use Rattle.ctr_kept.specs.Turns.{Start, KeepsRun, state_now}
 use Rattle.ctr_stops.specs.Fronts.{rows_of_state}

@@ -6,7 +6,7 @@ ghost use Rattle.ctr_stops.specs.Fronts.{rows_of_state};
 ghost use Rattle.ctr_stops.specs.Stops.{HasFirstCommits, Course, asking_more, KeepsCommits, ShowsAll, NotesAt, LeavesPrefixAt, LeftSince};
 
 use ctr_disk::Disk;
-use ctr_paged::an_image_opens;
+use ctr_kept::an_image_opens;
 
 /// A store that is opened on an image that stands for a database has its state, and a stop in the opening leaves its rows, or
 /// what it might have left before.

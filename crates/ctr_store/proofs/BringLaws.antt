@@ -8,16 +8,16 @@ use Rattle.ctr_disk.specs.declared.disk.Disk.{Ghosts}
 use Rattle.ctr_disk.specs.Image.{Image}
 use Rattle.ctr_disk.specs.declared.fault.StoreFault.{StoreFault}
 use Rattle.ctr_disk.specs.declared.fault.StoreFault.TheVariants.{Fault, Damaged}
-use Rattle.ctr_home.specs.declared.block.Block.TheVariants.{Page}
-use Rattle.ctr_home.specs.Blocks.{BlockValue, value_of, value_place}
-use Rattle.ctr_home.specs.Reading.{IsFaultOr, IsMisnumbered}
-use Rattle.ctr_pool.specs.declared.frame.Frame.{Frame}
-use Rattle.ctr_pool.specs.Pages.{PageHeld}
-use Rattle.ctr_pool.specs.Below.{IsFound}
-use Rattle.ctr_pool.specs.Frames.{frame_of, has_page, page_of, kept_or, change_of, since_in}
-use Rattle.ctr_pool.specs.Over.{Pooled, IsHeld, StaysOver, BringsIn, unchanged}
-use Rattle.ctr_redo.specs.Images.{home_in}
-use Rattle.ctr_redo.proofs.GrowthLaws.{counted_page}
+use Rattle.ctr_base.specs.ctr_home.declared.block.Block.TheVariants.{Page}
+use Rattle.ctr_base.specs.ctr_home.Blocks.{BlockValue, value_of, value_place}
+use Rattle.ctr_base.specs.ctr_home.Reading.{IsFaultOr, IsMisnumbered}
+use Rattle.ctr_base.specs.pool_Frame.{Frame}
+use Rattle.ctr_base.specs.pool_Pages.{PageHeld}
+use Rattle.ctr_base.specs.pool_Below.{IsFound}
+use Rattle.ctr_base.specs.pool_Frames.{frame_of, has_page, page_of, kept_or, change_of, since_in}
+use Rattle.ctr_base.specs.pool_Over.{Pooled, IsHeld, StaysOver, BringsIn, unchanged}
+use Rattle.ctr_base.specs.redo_Images.{home_in}
+use Rattle.ctr_base.proofs.redo_GrowthLaws.{counted_page}
 use Rattle.ctr_base.specs.Homes.{FailsHome}
 use Rattle.ctr_base.specs.Base.{home_of, StandsQuiet, FindsNumber, backing_of}
 use Rattle.ctr_store.specs.declared.parts.Parts.{Parts}

@@ -3,17 +3,17 @@ use Rattle.std.proofs.Common.{◌≡◌, ◌⊎◌, inl, inr, ◌∙◌, ℕ, �
 use Rattle.std.specs.Prelude.{IfOk, OnErr}
 use Rattle.ctr_disk.specs.declared.fault.StoreFault.{StoreFault}
 use Rattle.std.proofs.lemmas.List.{map-append}
-use Rattle.ctr_log.specs.Logs.{Log, frame, frames, buffer_size, end_behind, log_end, WaitsOrNone}
-use Rattle.ctr_log.proofs.LogLemmas.{frames-push, length-frame}
+use Rattle.ctr_base.specs.log_Logs.{Log, frame, frames, buffer_size, end_behind, log_end, WaitsOrNone}
+use Rattle.ctr_base.proofs.log_LogLemmas.{frames-push, length-frame}
 use Rattle.ctr_rec.specs.declared.record.Record.{Record}
 use Rattle.ctr_rec.specs.Records.{IsRecord}
 use Rattle.ctr_rec.specs.Spelling.{record_bytes}
 use Rattle.ctr_rec.specs.Read.{record_in}
 use Rattle.ctr_rec.proofs.ReadBack.{record_read}
-use Rattle.ctr_home.specs.declared.root.Root.{Root}
-use Rattle.ctr_meta.specs.Effects.{effect}
-use Rattle.ctr_meta.specs.Kept.{TablesKept, RoomLeft, opens_added, items_added}
-use Rattle.ctr_redo.specs.Images.{records_in}
+use Rattle.ctr_base.specs.ctr_home.declared.root.Root.{Root}
+use Rattle.ctr_base.specs.meta_Effects.{effect}
+use Rattle.ctr_base.specs.meta_Kept.{TablesKept, RoomLeft, opens_added, items_added}
+use Rattle.ctr_base.specs.redo_Images.{records_in}
 use Rattle.ctr_base.specs.declared.base.Base.{Base}
 use Rattle.ctr_base.specs.Base.{KeepsBase}
 use Rattle.ctr_base.specs.Growth.{CountsMore}
@@ -21,8 +21,8 @@ use Rattle.ctr_base.specs.KeptLaws.{goes_on_to, goes_by}
 use Rattle.ctr_disk.specs.declared.disk.Disk.{Ghosts}
 use Rattle.ctr_store.specs.Changes.{IsChange}
 use Rattle.ctr_store.specs.declared.parts.Parts.{Parts}
-use Rattle.ctr_pool.specs.declared.frame.Frame.{Frame}
-use Rattle.ctr_pool.specs.Frames.{frame_of, change_of, since_in}
+use Rattle.ctr_base.specs.pool_Frame.{Frame}
+use Rattle.ctr_base.specs.pool_Frames.{frame_of, change_of, since_in}
 use Rattle.ctr_store.specs.Parts.{HasBuffer, MayCount, EndsWithin, LogsRoom, record_end, pages_held, first_unsaved}
 use Rattle.ctr_store.proofs.RecordLaws.{record_short}
 

@@ -6,7 +6,7 @@ use Rattle.std.specs.List.{AllByRecursion}
 use Rattle.std.proofs.lemmas.Bool.Decides.{nat_tests}
 use Rattle.ctr_bytes.specs.Following.{◌>>=◌}
 use Rattle.ctr_bytes.specs.Fields.{field}
-use Rattle.ctr_log.proofs.KeptLaws.{passes}
+use Rattle.ctr_base.proofs.log_KeptLaws.{passes}
 use Rattle.ctr_rec.specs.declared.decoding.BadRecord.{BadRecord}
 use Rattle.ctr_rec.specs.declared.record.Record.{Record}
 use Rattle.ctr_rec.specs.declared.record.Record.TheVariants.{Checkpoint}
@@ -19,14 +19,14 @@ use Rattle.ctr_rec.specs.Members.{among, AreNew, HeadsFit, ItemFits, XidFits, Me
 use Rattle.ctr_rec.proofs.ListLaws.{checkpoint_number, length-checkpoint}
 use Rattle.ctr_rec.proofs.Listed.{listed_members}
 use Rattle.ctr_rec.proofs.ReadBack.{record_read}
-use Rattle.ctr_meta.specs.Tables.{Tables, is_in}
-use Rattle.ctr_meta.specs.Effects.{effect}
-use Rattle.ctr_meta.specs.Kept.{EachOnce, XidsFit, IsLogged}
-use Rattle.ctr_meta.proofs.XidLaws.{in_first, in_head, in_rest}
-use Rattle.ctr_meta.proofs.NeedLaws.{list_needs_met}
-use Rattle.ctr_meta.specs.Needs.{needs}
-use Rattle.ctr_redo.specs.Overlaid.{overlay_of}
-use Rattle.ctr_redo.specs.Fitting.{LiesInside, FitsBehind}
+use Rattle.ctr_base.specs.meta_Tables.{Tables, is_in}
+use Rattle.ctr_base.specs.meta_Effects.{effect}
+use Rattle.ctr_base.specs.meta_Kept.{EachOnce, XidsFit, IsLogged}
+use Rattle.ctr_base.proofs.meta_XidLaws.{in_first, in_head, in_rest}
+use Rattle.ctr_base.proofs.meta_NeedLaws.{list_needs_met}
+use Rattle.ctr_base.specs.meta_Needs.{needs}
+use Rattle.ctr_base.specs.redo_Overlaid.{overlay_of}
+use Rattle.ctr_base.specs.redo_Fitting.{LiesInside, FitsBehind}
 use Rattle.ctr_store.specs.Checkpoints.{heads_need, SpellsTables}
 
 -- two checks that pass, one behind the other

@@ -1,14 +1,14 @@
 -- What the steps of making a database leave.
 use Rattle.std.proofs.Common.{◌≡◌, inl, inr, ℕ, length, None, Some, sym, ◌∙◌, ap, subst, arith}
 use Rattle.ctr_disk.specs.Image.{Image}
-use Rattle.ctr_home.specs.declared.block.Block.TheVariants.{Page, Root as RootBlock}
-use Rattle.ctr_home.specs.Blocks.{value_of}
-use Rattle.ctr_home.specs.Roots.{root_block, root_value}
-use Rattle.ctr_home.specs.Writing.{IsAbove, OthersStay, IsOldOrNewValue, IsNewValue}
-use Rattle.ctr_log.specs.Logs.{HasLog}
-use Rattle.ctr_log.specs.Fresh.{fresh_log, IsClosed, LogsAreReady, SameRoot}
-use Rattle.ctr_redo.specs.Images.{new_root, IsNewDatabase}
-use Rattle.ctr_redo.proofs.NewLaws.{folds_new}
+use Rattle.ctr_base.specs.ctr_home.declared.block.Block.TheVariants.{Page, Root as RootBlock}
+use Rattle.ctr_base.specs.ctr_home.Blocks.{value_of}
+use Rattle.ctr_base.specs.ctr_home.Roots.{root_block, root_value}
+use Rattle.ctr_base.specs.ctr_home.Writing.{IsAbove, OthersStay, IsOldOrNewValue, IsNewValue}
+use Rattle.ctr_base.specs.log_Logs.{HasLog}
+use Rattle.ctr_base.specs.log_Fresh.{fresh_log, IsClosed, LogsAreReady, SameRoot}
+use Rattle.ctr_base.specs.redo_Images.{new_root, IsNewDatabase}
+use Rattle.ctr_base.proofs.redo_NewLaws.{folds_new}
 use Rattle.ctr_base.specs.Extent.{KeepsPages, AreCleared}
 use Rattle.ctr_base.proofs.ExtentLaws.{cleared_blank, cleared_long}
 use Rattle.ctr_store.specs.Creating.{IsNoneOrNew, IsNoneOrEmptyStore}

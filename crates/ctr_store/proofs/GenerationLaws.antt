@@ -4,33 +4,33 @@ use Rattle.std.proofs.Common.{◌≡◌, ◌↔◌, ℕ, ◌+◌, ◌-◌, ◌^�
 use Rattle.std.proofs.lemmas.List.{append-nil, take-take}
 use Rattle.ctr_disk.specs.declared.disk.Disk.{Ghosts}
 use Rattle.ctr_disk.specs.Image.{Image}
-use Rattle.ctr_home.specs.declared.root.Root.{Root}
-use Rattle.ctr_home.specs.declared.block.Block.TheVariants.{Root as RootBlock}
-use Rattle.ctr_home.specs.Blocks.{value_of}
-use Rattle.ctr_home.specs.Roots.{SaysRoot}
-use Rattle.ctr_log.specs.Logs.{Log, frames}
-use Rattle.ctr_log.specs.Kept.{IsStarted}
+use Rattle.ctr_base.specs.ctr_home.declared.root.Root.{Root}
+use Rattle.ctr_base.specs.ctr_home.declared.block.Block.TheVariants.{Root as RootBlock}
+use Rattle.ctr_base.specs.ctr_home.Blocks.{value_of}
+use Rattle.ctr_base.specs.ctr_home.Roots.{SaysRoot}
+use Rattle.ctr_base.specs.log_Logs.{Log, frames}
+use Rattle.ctr_base.specs.log_Kept.{IsStarted}
 use Rattle.ctr_rec.specs.declared.record.Record.{Record}
 use Rattle.ctr_rec.specs.declared.record.Record.TheVariants.{Checkpoint}
 use Rattle.ctr_rec.specs.Read.{record_in}
 use Rattle.ctr_rec.specs.Spelling.{record_bytes}
 use Rattle.ctr_rec.proofs.ReadBack.{record_read}
-use Rattle.ctr_meta.specs.Tables.{Tables}
-use Rattle.ctr_meta.specs.Effects.{tables_of}
-use Rattle.ctr_pool.specs.declared.frame.Frame.{Frame}
-use Rattle.ctr_pool.specs.Pages.{PageHeld}
-use Rattle.ctr_pool.specs.Frames.{frame_of, change_of, page_of, kept_or}
-use Rattle.ctr_pool.specs.Below.{HoldsStill}
-use Rattle.ctr_pool.specs.Over.{IsHeld}
-use Rattle.ctr_redo.specs.Overlaid.{overlaid}
-use Rattle.ctr_redo.specs.Images.{records_in, stored_in}
-use Rattle.ctr_redo.proofs.Generations.{front_home}
+use Rattle.ctr_base.specs.meta_Tables.{Tables}
+use Rattle.ctr_base.specs.meta_Effects.{tables_of}
+use Rattle.ctr_base.specs.pool_Frame.{Frame}
+use Rattle.ctr_base.specs.pool_Pages.{PageHeld}
+use Rattle.ctr_base.specs.pool_Frames.{frame_of, change_of, page_of, kept_or}
+use Rattle.ctr_base.specs.pool_Below.{HoldsStill}
+use Rattle.ctr_base.specs.pool_Over.{IsHeld}
+use Rattle.ctr_base.specs.redo_Overlaid.{overlaid}
+use Rattle.ctr_base.specs.redo_Images.{records_in, stored_in}
+use Rattle.ctr_base.proofs.redo_Generations.{front_home}
 use Rattle.ctr_base.specs.declared.base.Base.{Base}
 use Rattle.ctr_base.specs.Base.{stored_of, now_of, home_of, MayPut, IsQuiet, IsSoundImage, StandsQuiet, backing_of}
 use Rattle.ctr_base.specs.BaseLaws.{saves_same, holds_if}
 use Rattle.ctr_base.specs.Generations.{IsCheckpoint, KeepsFold, OlderIsHome}
 use Rattle.ctr_store.specs.declared.parts.Parts.{Parts}
-use Rattle.ctr_meta.specs.Kept.{TablesKept}
+use Rattle.ctr_base.specs.meta_Kept.{TablesKept}
 use Rattle.ctr_store.specs.Numbers.{NumbersLow}
 use Rattle.ctr_store.specs.Parts.{IsFold, HasBuffer}
 use Rattle.ctr_store.specs.Store.{View, LeavesFront}

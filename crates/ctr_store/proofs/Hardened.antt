@@ -5,8 +5,8 @@ use Rattle.ctr_bytes.specs.Fields.{spelled}
 use Rattle.ctr_bytes.proofs.FieldLaws.{length-spelled}
 use Rattle.ctr_rec.specs.declared.record.Record.{Record}
 use Rattle.ctr_rec.specs.Spelling.{record_bytes}
-use Rattle.ctr_log.specs.Logs.{Log, frame, frames}
-use Rattle.ctr_redo.specs.Images.{records_in}
+use Rattle.ctr_base.specs.log_Logs.{Log, frame, frames}
+use Rattle.ctr_base.specs.redo_Images.{records_in}
 use Rattle.ctr_store.specs.Parts.{HasBuffer}
 
 -- frames of no byte are none

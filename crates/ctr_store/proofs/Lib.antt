@@ -15,3 +15,6 @@ mod CreateLaws
 pub mod Hardened
 mod CheckpointLaws
 mod GenerationLaws
+pub use Rattle.ctr_base.proofs.RootLaws as base_RootLaws
+pub use Rattle.ctr_rec.proofs.Reading as rec_Reading
+pub use Rattle.ctr_base.proofs.GrowLaws as base_GrowLaws

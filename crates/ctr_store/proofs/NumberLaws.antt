@@ -6,15 +6,15 @@ use Rattle.ctr_rec.specs.declared.record.Record.{Record}
 use Rattle.ctr_rec.specs.declared.record.Record.TheVariants.{Checkpoint, Begin, Commit, Abort, Forget, Alloc, Format, Link, Free, Unlink, Create, Uncreate, Drop, Undrop, Row, Keep, Revert, Trim}
 use Rattle.ctr_rec.specs.Members.{HasMembers, opens_listed}
 use Rattle.ctr_rec.proofs.Listed.{listed_members}
-use Rattle.ctr_meta.specs.Tables.{Tables, no_tables, is_in, heads_at, heads_in, without_xid, with_heads}
-use Rattle.ctr_meta.specs.Effects.{effect, listed, one_head_more, one_head_less, one_aborted_less}
-use Rattle.ctr_meta.specs.Kept.{IsLogged, NumbersFit}
+use Rattle.ctr_base.specs.meta_Tables.{Tables, no_tables, is_in, heads_at, heads_in, without_xid, with_heads}
+use Rattle.ctr_base.specs.meta_Effects.{effect, listed, one_head_more, one_head_less, one_aborted_less}
+use Rattle.ctr_base.specs.meta_Kept.{IsLogged, NumbersFit}
 use Rattle.ctr_store.specs.Changes.{IsChange}
 use Rattle.ctr_store.specs.Numbers.{HeadsWithin, NumbersWithin, NumbersAt, NumbersLow}
 use Rattle.std.specs.Prelude.{IfOk, OnErr}
 use Rattle.ctr_disk.specs.declared.disk.Disk.{Ghosts}
 use Rattle.ctr_disk.specs.declared.fault.StoreFault.{StoreFault}
-use Rattle.ctr_meta.specs.Kept.{TablesKept}
+use Rattle.ctr_base.specs.meta_Kept.{TablesKept}
 use Rattle.ctr_base.specs.Base.{KeepsBase}
 use Rattle.ctr_store.specs.declared.parts.Parts.{Parts}
 use Rattle.ctr_store.specs.Parts.{LogsRoom}

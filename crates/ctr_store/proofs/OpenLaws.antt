@@ -11,51 +11,51 @@ use Rattle.ctr_types.specs.declared.memory.OutOfMemory.{OutOfMemory as WantOfMem
 use Rattle.ctr_types.specs.Faults.{HasFault}
 use Rattle.ctr_disk.specs.declared.fault.StoreFault.{StoreFault}
 use Rattle.ctr_disk.specs.declared.fault.StoreFault.TheVariants as store
-use Rattle.ctr_home.specs.Reading.{IsFaultOr}
-use Rattle.ctr_log.specs.declared.reading.ReadError.{ReadError}
-use Rattle.ctr_log.specs.declared.reading.ReadError.TheVariants as read
-use Rattle.ctr_log.specs.declared.visitor.VisitError.{VisitError}
-use Rattle.ctr_log.specs.declared.visitor.VisitError.TheVariants as visit
-use Rattle.ctr_log.specs.LogChecks.{kept_damage, sound_kept_visits, IsThisDamage}
+use Rattle.ctr_base.specs.ctr_home.Reading.{IsFaultOr}
+use Rattle.ctr_base.specs.log_ReadError.{ReadError}
+use Rattle.ctr_base.specs.log_ReadError.TheVariants as read
+use Rattle.ctr_base.specs.log_VisitError.{VisitError}
+use Rattle.ctr_base.specs.log_VisitError.TheVariants as visit
+use Rattle.ctr_base.specs.log_LogChecks.{kept_damage, sound_kept_visits, IsThisDamage}
 use Rattle.ctr_base.specs.Opening.{FindsRoot, IsRootDamage}
-use Rattle.ctr_log.specs.declared.opening.OpenError.TheVariants as open_error
+use Rattle.ctr_base.specs.log_OpenError.TheVariants as open_error
 use Rattle.ctr_disk.specs.declared.disk.Disk.{Ghosts}
-use Rattle.ctr_home.specs.declared.root.Root.{Root}
+use Rattle.ctr_base.specs.ctr_home.declared.root.Root.{Root}
 use Rattle.ctr_disk.specs.Device.{LeavesOnly, IsDurable}
 use Rattle.ctr_disk.specs.Image.{Image, content}
-use Rattle.ctr_home.specs.declared.block.Block.TheVariants.{Root as RootBlock}
-use Rattle.ctr_home.specs.Blocks.{value_of}
-use Rattle.ctr_home.specs.Roots.{SaysRoot, root_block}
-use Rattle.ctr_log.specs.declared.visitor.Visit.{Visit}
-use Rattle.ctr_log.specs.Visits.{kept_visits, StopsAt, OnRead, EndsEarly, IsToldBy}
-use Rattle.ctr_log.proofs.VisitLaws.{kept_bytes}
-use Rattle.ctr_home.specs.Checks.{check_of, judged}
-use Rattle.ctr_log.proofs.KeptLaws.{picks}
-use Rattle.ctr_meta.specs.Effects.{tables_of}
-use Rattle.ctr_meta.specs.Tables.{no_tables}
-use Rattle.ctr_log.specs.Logs.{Log, Batches, GoesOn}
-use Rattle.ctr_log.specs.Kept.{kept_log, OpensKept, StartsAt, WritesBehind}
+use Rattle.ctr_base.specs.ctr_home.declared.block.Block.TheVariants.{Root as RootBlock}
+use Rattle.ctr_base.specs.ctr_home.Blocks.{value_of}
+use Rattle.ctr_base.specs.ctr_home.Roots.{SaysRoot, root_block}
+use Rattle.ctr_base.specs.log_Visit.{Visit}
+use Rattle.ctr_base.specs.log_Visits.{kept_visits, StopsAt, OnRead, EndsEarly, IsToldBy}
+use Rattle.ctr_base.proofs.log_VisitLaws.{kept_bytes}
+use Rattle.ctr_base.specs.ctr_home.Checks.{check_of, judged}
+use Rattle.ctr_base.proofs.log_KeptLaws.{picks}
+use Rattle.ctr_base.specs.meta_Effects.{tables_of}
+use Rattle.ctr_base.specs.meta_Tables.{no_tables}
+use Rattle.ctr_base.specs.log_Logs.{Log, Batches, GoesOn}
+use Rattle.ctr_base.specs.log_Kept.{kept_log, OpensKept, StartsAt, WritesBehind}
 use Rattle.ctr_rec.specs.declared.record.Record.{Record}
 use Rattle.ctr_rec.specs.Read.{record_in}
-use Rattle.ctr_redo.specs.States.{state_of, steps, next_of}
-use Rattle.ctr_redo.specs.Images.{records_in, stored_in, IsSound, FoldsFront, IsLogFile}
-use Rattle.ctr_meta.specs.Tables.{no_tables}
-use Rattle.ctr_redo.specs.Fitting.{EachFits, MayFollow}
-use Rattle.ctr_redo.proofs.FitLaws.{last_written}
-use Rattle.ctr_redo.proofs.ImageLaws.{last_is_log}
+use Rattle.ctr_base.specs.redo_States.{state_of, steps, next_of}
+use Rattle.ctr_base.specs.redo_Images.{records_in, stored_in, IsSound, FoldsFront, IsLogFile}
+use Rattle.ctr_base.specs.meta_Tables.{no_tables}
+use Rattle.ctr_base.specs.redo_Fitting.{EachFits, MayFollow}
+use Rattle.ctr_base.proofs.redo_FitLaws.{last_written}
+use Rattle.ctr_base.proofs.redo_ImageLaws.{last_is_log}
 use Rattle.ctr_base.specs.declared.base.Base.{Base}
 use Rattle.ctr_base.specs.Base.{stored_of, waiting_of, StandsQuiet, MovesBase}
 use Rattle.ctr_base.proofs.RootLaws.{one_root}
 use Rattle.ctr_store.proofs.PartsLaws.{goes_more, writes_more}
 use Rattle.ctr_store.specs.declared.parts.Parts.{Parts}
 use Rattle.ctr_store.specs.declared.opening.Found.{Found}
-use Rattle.ctr_log.specs.declared.opening.OpenError.{OpenError}
+use Rattle.ctr_base.specs.log_OpenError.{OpenError}
 use Rattle.ctr_store.specs.RecordChecks.{SeenLog, FailsAs, AllPass, RefusesVisit, HasSeen, tables_seen}
 use Rattle.ctr_base.specs.Homes.{HomesSince}
 use Rattle.ctr_base.proofs.HomeLaws.{since_first}
 use Rattle.ctr_store.specs.PageChecks.{PagesPass}
 use Rattle.ctr_store.specs.Redo.{StartsRedo}
-use Rattle.ctr_log.specs.Opening.{fault_told, read_told}
+use Rattle.ctr_base.specs.log_Opening.{fault_told, read_told}
 use Rattle.ctr_store.specs.Opening.{FindsFront, LogPasses, OverlaidPass, RefusesLog, IsLater, IsUndamaged, OpensParts, AnswersOpen, RefusesAs, opening_told, IsWornBy, worn_by, worn_in}
 
 -- a log was read, and its writer has room

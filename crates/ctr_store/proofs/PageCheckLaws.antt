@@ -8,19 +8,19 @@ use Rattle.ctr_types.specs.declared.file.File.TheVariants.{Pages}
 use Rattle.ctr_disk.specs.Image.{Image}
 use Rattle.ctr_disk.specs.declared.fault.StoreFault.{StoreFault}
 use Rattle.ctr_disk.specs.declared.fault.StoreFault.TheVariants.{Fault, Damaged}
-use Rattle.ctr_home.specs.declared.block.Block.TheVariants.{Page}
-use Rattle.ctr_home.specs.declared.checks.Check.{Check}
-use Rattle.ctr_home.specs.Blocks.{BlockValue, value_place, value_of, page_with}
-use Rattle.ctr_home.specs.Checks.{check_of, judged}
-use Rattle.ctr_home.specs.Reading.{number_check, IsMisnumbered, IsFaultOr}
-use Rattle.ctr_log.proofs.KeptLaws.{picks}
+use Rattle.ctr_base.specs.ctr_home.declared.block.Block.TheVariants.{Page}
+use Rattle.ctr_base.specs.ctr_home.declared.checks.Check.{Check}
+use Rattle.ctr_base.specs.ctr_home.Blocks.{BlockValue, value_place, value_of, page_with}
+use Rattle.ctr_base.specs.ctr_home.Checks.{check_of, judged}
+use Rattle.ctr_base.specs.ctr_home.Reading.{number_check, IsMisnumbered, IsFaultOr}
+use Rattle.ctr_base.proofs.log_KeptLaws.{picks}
 use Rattle.ctr_rec.specs.declared.record.Overlay.{Overlay}
 use Rattle.ctr_rec.specs.declared.record.Record.{Record}
-use Rattle.ctr_pool.specs.Pages.{PageHeld}
-use Rattle.ctr_redo.specs.Overlaid.{overlay_of, lies_on, touches, with_record, overlaid}
-use Rattle.ctr_redo.specs.Images.{home_in}
-use Rattle.ctr_redo.proofs.PageLaws.{either, stays_out}
-use Rattle.ctr_redo.proofs.GrowthLaws.{counted_page, blank_home}
+use Rattle.ctr_base.specs.pool_Pages.{PageHeld}
+use Rattle.ctr_base.specs.redo_Overlaid.{overlay_of, lies_on, touches, with_record, overlaid}
+use Rattle.ctr_base.specs.redo_Images.{home_in}
+use Rattle.ctr_base.proofs.redo_PageLaws.{either, stays_out}
+use Rattle.ctr_base.proofs.redo_GrowthLaws.{counted_page, blank_home}
 use Rattle.ctr_base.specs.Homes.{home_checks, FailsHome, PassesHome, HasSameHome}
 use Rattle.ctr_store.specs.PageChecks.{PagePasses, PageFails, PagesPass, FirstPageFails}
 

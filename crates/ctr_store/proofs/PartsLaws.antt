@@ -5,37 +5,37 @@ use Rattle.std.proofs.lemmas.Bool.Decides.{eqb_tells}
 use Rattle.std.specs.Option.{option_map}
 use Rattle.ctr_disk.specs.declared.disk.Disk.{Ghosts}
 use Rattle.ctr_disk.specs.Image.{Image}
-use Rattle.ctr_log.specs.Logs.{Log, Batches, GoesOn}
+use Rattle.ctr_base.specs.log_Logs.{Log, Batches, GoesOn}
 use Rattle.ctr_rec.specs.declared.record.Record.{Record}
 use Rattle.ctr_rec.specs.declared.record.Overlay.{Overlay}
 use Rattle.ctr_rec.specs.Read.{record_in}
-use Rattle.ctr_home.specs.declared.root.Root.{Root}
-use Rattle.ctr_meta.specs.Effects.{effect, tables_of}
-use Rattle.ctr_meta.specs.Kept.{IsLogged, MayApply}
-use Rattle.ctr_meta.specs.Needs.{needs}
-use Rattle.ctr_meta.specs.Tables.{Tables, no_tables}
+use Rattle.ctr_base.specs.ctr_home.declared.root.Root.{Root}
+use Rattle.ctr_base.specs.meta_Effects.{effect, tables_of}
+use Rattle.ctr_base.specs.meta_Kept.{IsLogged, MayApply}
+use Rattle.ctr_base.specs.meta_Needs.{needs}
+use Rattle.ctr_base.specs.meta_Tables.{Tables, no_tables}
 use Rattle.ctr_bytes.specs.Fields.{field}
-use Rattle.ctr_log.specs.Kept.{kept_log, WritesBehind, WritesBy}
+use Rattle.ctr_base.specs.log_Kept.{kept_log, WritesBehind, WritesBy}
 use Rattle.ctr_rec.specs.Spelling.{record_bytes}
 use Rattle.ctr_rec.proofs.ReadBack.{record_read}
-use Rattle.ctr_pool.specs.declared.frame.Frame.{Frame}
-use Rattle.ctr_pool.specs.Pages.{PageHeld, overlaid_by}
-use Rattle.ctr_pool.specs.Below.{HoldsStill}
-use Rattle.ctr_pool.specs.Frames.{frame_of, page_of, kept_or, page_shown, after_change, since_then}
-use Rattle.ctr_pool.specs.Over.{IsHeld, IsOver, ShowsSame}
-use Rattle.ctr_pool.proofs.FrameLaws.{yes, no}
-use Rattle.ctr_redo.specs.Overlaid.{overlay_of, lies_on, laid_over, touches, with_record, overlaid}
-use Rattle.ctr_redo.specs.States.{page_limit, state_of, step, next_of, page_at}
+use Rattle.ctr_base.specs.pool_Frame.{Frame}
+use Rattle.ctr_base.specs.pool_Pages.{PageHeld, overlaid_by}
+use Rattle.ctr_base.specs.pool_Below.{HoldsStill}
+use Rattle.ctr_base.specs.pool_Frames.{frame_of, page_of, kept_or, page_shown, after_change, since_then}
+use Rattle.ctr_base.specs.pool_Over.{IsHeld, IsOver, ShowsSame}
+use Rattle.ctr_base.proofs.pool_FrameLaws.{yes, no}
+use Rattle.ctr_base.specs.redo_Overlaid.{overlay_of, lies_on, laid_over, touches, with_record, overlaid}
+use Rattle.ctr_base.specs.redo_States.{page_limit, state_of, step, next_of, page_at}
 use Rattle.ctr_disk.specs.Device.{LeavesOnly}
-use Rattle.ctr_redo.specs.Images.{records_in, FoldsFront}
-use Rattle.ctr_redo.proofs.PageLaws.{stays_out, goes_in, below_next, overlaid-append}
-use Rattle.ctr_redo.proofs.StateLaws.{state_push, page_is, tables-push, below_more}
+use Rattle.ctr_base.specs.redo_Images.{records_in, FoldsFront}
+use Rattle.ctr_base.proofs.redo_PageLaws.{stays_out, goes_in, below_next, overlaid-append}
+use Rattle.ctr_base.proofs.redo_StateLaws.{state_push, page_is, tables-push, below_more}
 use Rattle.ctr_base.specs.declared.base.Base.{Base}
 use Rattle.ctr_base.specs.Growth.{GrowsBase}
 use Rattle.ctr_base.specs.Base.{HasGate, stored_of, waiting_of, now_of, home_of, MaySave, MayPut, IsQuiet, IsSoundImage, StandsWell, StandsQuiet, LeavesIf, MovesBase, MovesIf, KeepsBase, backing_of}
 use Rattle.ctr_store.specs.declared.parts.Parts.{Parts}
-use Rattle.ctr_redo.specs.Fitting.{LiesInside, FitsBehind, EachFits, MayFollow}
-use Rattle.ctr_redo.proofs.FitLaws.{tables_behind, tables_behind_is, each_append, none_append}
+use Rattle.ctr_base.specs.redo_Fitting.{LiesInside, FitsBehind, EachFits, MayFollow}
+use Rattle.ctr_base.proofs.redo_FitLaws.{tables_behind, tables_behind_is, each_append, none_append}
 use Rattle.ctr_store.proofs.BufferLaws.{kept_room}
 use Rattle.ctr_store.proofs.RecordLaws.{change_number}
 use Rattle.ctr_store.specs.Parts.{IsFold, AreLow, CanLog, AddsRecord, LogsRecord}

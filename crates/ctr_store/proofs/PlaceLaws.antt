@@ -5,16 +5,16 @@ use Rattle.std.proofs.lemmas.Bool.{lt-ltb}
 use Rattle.ctr_disk.specs.declared.disk.Disk.{Ghosts}
 use Rattle.ctr_disk.specs.Image.{Image}
 use Rattle.ctr_disk.specs.Device.{OnlyReads}
-use Rattle.ctr_home.specs.declared.block.Block.TheVariants.{Page}
-use Rattle.ctr_home.specs.declared.block.Home.TheVariants.{First}
-use Rattle.ctr_home.specs.Blocks.{home_place, value_of, value_place}
-use Rattle.ctr_pool.specs.declared.frame.Frame.{Frame}
-use Rattle.ctr_pool.specs.Pages.{PageHeld}
-use Rattle.ctr_pool.specs.Below.{HoldsStill}
-use Rattle.ctr_pool.specs.Frames.{frame_of, page_of, change_of}
-use Rattle.ctr_pool.specs.Over.{IsHeld, IsOver}
-use Rattle.ctr_redo.specs.Images.{home_in}
-use Rattle.ctr_redo.proofs.GrowthLaws.{counted_page}
+use Rattle.ctr_base.specs.ctr_home.declared.block.Block.TheVariants.{Page}
+use Rattle.ctr_base.specs.ctr_home.declared.block.Home.TheVariants.{First}
+use Rattle.ctr_base.specs.ctr_home.Blocks.{home_place, value_of, value_place}
+use Rattle.ctr_base.specs.pool_Frame.{Frame}
+use Rattle.ctr_base.specs.pool_Pages.{PageHeld}
+use Rattle.ctr_base.specs.pool_Below.{HoldsStill}
+use Rattle.ctr_base.specs.pool_Frames.{frame_of, page_of, change_of}
+use Rattle.ctr_base.specs.pool_Over.{IsHeld, IsOver}
+use Rattle.ctr_base.specs.redo_Images.{home_in}
+use Rattle.ctr_base.proofs.redo_GrowthLaws.{counted_page}
 use Rattle.ctr_base.specs.Homes.{FindsValue}
 use Rattle.ctr_base.specs.Base.{home_of, MayPut, StandsQuiet, LeavesIf, MovesIf, backing_of}
 use Rattle.ctr_base.specs.BaseLaws.{leaves_joined, moves_joined, read_leaves, read_moves, read_holds, read_rests, holds_if}

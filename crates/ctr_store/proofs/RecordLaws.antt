@@ -18,11 +18,11 @@ use Rattle.ctr_rec.proofs.ReadBack.{record_read}
 use Rattle.ctr_bytes.specs.Fields.{field}
 use Rattle.ctr_rec.proofs.Forms.{begins_so}
 use Rattle.ctr_rec.proofs.Laws.{length-parts}
-use Rattle.ctr_pool.specs.declared.frame.Frame.{Frame}
-use Rattle.ctr_pool.specs.Frames.{frame_of, has_page, change_of, since_in, IsOldest, AreClean}
+use Rattle.ctr_base.specs.pool_Frame.{Frame}
+use Rattle.ctr_base.specs.pool_Frames.{frame_of, has_page, change_of, since_in, IsOldest, AreClean}
 use Rattle.ctr_store.specs.Parts.{has_change, some_dirty}
-use Rattle.ctr_redo.specs.Overlaid.{form_overlay, overlay_of, lies_on, touches}
-use Rattle.ctr_redo.specs.Fitting.{LiesInside}
+use Rattle.ctr_base.specs.redo_Overlaid.{form_overlay, overlay_of, lies_on, touches}
+use Rattle.ctr_base.specs.redo_Fitting.{LiesInside}
 use Rattle.ctr_store.specs.Changes.{HasFields, IsChange}
 
 flag_low : (t : Tag) → flag_at (layout t) ≤ 17

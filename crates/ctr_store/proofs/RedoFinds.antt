@@ -4,17 +4,17 @@ use Rattle.std.specs.Prelude.{⊤}
 use Rattle.std.proofs.lemmas.Bool.Decides.{eqb_tells}
 use Rattle.ctr_disk.specs.declared.disk.Disk.{Ghosts}
 use Rattle.ctr_disk.specs.Image.{Image}
-use Rattle.ctr_home.specs.declared.root.Root.{Root}
+use Rattle.ctr_base.specs.ctr_home.declared.root.Root.{Root}
 use Rattle.ctr_disk.specs.declared.fault.StoreFault.{StoreFault}
 use Rattle.ctr_disk.specs.declared.fault.StoreFault.TheVariants.{Fault, Damaged}
-use Rattle.ctr_home.specs.declared.block.Block.TheVariants.{Page}
-use Rattle.ctr_home.specs.Blocks.{BlockValue, value_of}
-use Rattle.ctr_home.specs.Reading.{IsFaultOr}
-use Rattle.ctr_pool.specs.Pages.{PageHeld}
-use Rattle.ctr_pool.specs.Frames.{has_page, kept_or, page_shown}
-use Rattle.ctr_redo.specs.States.{next_of}
-use Rattle.ctr_redo.proofs.PageLaws.{either}
-use Rattle.ctr_redo.proofs.GrowthLaws.{counted_page}
+use Rattle.ctr_base.specs.ctr_home.declared.block.Block.TheVariants.{Page}
+use Rattle.ctr_base.specs.ctr_home.Blocks.{BlockValue, value_of}
+use Rattle.ctr_base.specs.ctr_home.Reading.{IsFaultOr}
+use Rattle.ctr_base.specs.pool_Pages.{PageHeld}
+use Rattle.ctr_base.specs.pool_Frames.{has_page, kept_or, page_shown}
+use Rattle.ctr_base.specs.redo_States.{next_of}
+use Rattle.ctr_base.proofs.redo_PageLaws.{either}
+use Rattle.ctr_base.proofs.redo_GrowthLaws.{counted_page}
 use Rattle.ctr_base.specs.declared.base.Base.{Base}
 use Rattle.ctr_base.specs.Homes.{FailsHome, PassesHome, IsWrittenSince}
 use Rattle.ctr_base.specs.Base.{stored_of, home_of, StandsQuiet, KeepsBase}

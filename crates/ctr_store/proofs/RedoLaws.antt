@@ -7,21 +7,21 @@ use Rattle.std.proofs.lemmas.Bool.Decides.{eqb_tells}
 use Rattle.std.specs.Option.{option_map}
 use Rattle.ctr_disk.specs.declared.disk.Disk.{Ghosts}
 use Rattle.ctr_disk.specs.Image.{Image}
-use Rattle.ctr_home.specs.declared.root.Root.{Root}
+use Rattle.ctr_base.specs.ctr_home.declared.root.Root.{Root}
 use Rattle.ctr_rec.specs.declared.record.Record.{Record}
 use Rattle.ctr_rec.specs.declared.record.Overlay.{Overlay}
-use Rattle.ctr_meta.specs.Effects.{effect, tables_of}
-use Rattle.ctr_meta.specs.Kept.{TablesKept}
-use Rattle.ctr_pool.specs.declared.frame.Frame.{Frame}
-use Rattle.ctr_pool.specs.Pages.{PageHeld, overlaid_by}
-use Rattle.ctr_pool.specs.Frames.{frame_of, has_page, page_of, kept_or, page_shown, after_change, since_then}
-use Rattle.ctr_pool.specs.Over.{IsHeld, IsOver, ShowsSame}
-use Rattle.ctr_pool.proofs.FrameLaws.{yes, no}
-use Rattle.ctr_redo.specs.Overlaid.{overlay_of, lies_on, laid_over, touches, with_record, overlaid}
-use Rattle.ctr_redo.specs.Images.{records_in}
-use Rattle.ctr_redo.specs.States.{Stored, next_of}
-use Rattle.ctr_redo.proofs.PageLaws.{stays_out, goes_in, overlaid-append, same_page, again, below_next, no_lower}
-use Rattle.ctr_redo.proofs.StateLaws.{tables-push}
+use Rattle.ctr_base.specs.meta_Effects.{effect, tables_of}
+use Rattle.ctr_base.specs.meta_Kept.{TablesKept}
+use Rattle.ctr_base.specs.pool_Frame.{Frame}
+use Rattle.ctr_base.specs.pool_Pages.{PageHeld, overlaid_by}
+use Rattle.ctr_base.specs.pool_Frames.{frame_of, has_page, page_of, kept_or, page_shown, after_change, since_then}
+use Rattle.ctr_base.specs.pool_Over.{IsHeld, IsOver, ShowsSame}
+use Rattle.ctr_base.proofs.pool_FrameLaws.{yes, no}
+use Rattle.ctr_base.specs.redo_Overlaid.{overlay_of, lies_on, laid_over, touches, with_record, overlaid}
+use Rattle.ctr_base.specs.redo_Images.{records_in}
+use Rattle.ctr_base.specs.redo_States.{Stored, next_of}
+use Rattle.ctr_base.proofs.redo_PageLaws.{stays_out, goes_in, overlaid-append, same_page, again, below_next, no_lower}
+use Rattle.ctr_base.proofs.redo_StateLaws.{tables-push}
 use Rattle.ctr_base.specs.declared.base.Base.{Base}
 use Rattle.ctr_base.specs.Base.{stored_of, waiting_of, now_of, home_of, MaySave, IsSoundImage, StandsQuiet, MovesBase, MovesIf, KeepsBase, backing_of}
 use Rattle.ctr_base.specs.BaseLaws.{moves_joined, stands_still}

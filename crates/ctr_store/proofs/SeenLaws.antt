@@ -4,24 +4,24 @@ use Rattle.std.proofs.lemmas.List.{take-append-le, take_all, map-append}
 use Rattle.std.proofs.lemmas.Option.{slice_get_within}
 use Rattle.std.proofs.lemmas.Bool.{cases_lt, ltb-true}
 use Rattle.ctr_disk.specs.declared.disk.Disk.{Ghosts}
-use Rattle.ctr_log.specs.Kept.{kept_log}
-use Rattle.ctr_log.specs.declared.visitor.Visit.{Visit}
-use Rattle.ctr_log.specs.Visits.{visit_bytes, AreNumbered}
-use Rattle.ctr_log.proofs.VisitLaws.{bytes-append}
+use Rattle.ctr_base.specs.log_Kept.{kept_log}
+use Rattle.ctr_base.specs.log_Visit.{Visit}
+use Rattle.ctr_base.specs.log_Visits.{visit_bytes, AreNumbered}
+use Rattle.ctr_base.proofs.log_VisitLaws.{bytes-append}
 use Rattle.ctr_rec.specs.declared.record.Overlay.{Overlay}
 use Rattle.ctr_rec.specs.declared.record.Record.{Record}
 use Rattle.ctr_rec.specs.Read.{record_in}
 use Rattle.ctr_rec.proofs.ReadBack.{record_read}
 use Rattle.ctr_rec.specs.Damage.{wrong}
-use Rattle.ctr_meta.specs.Effects.{effect, tables_of}
-use Rattle.ctr_meta.specs.Tables.{Tables}
-use Rattle.ctr_redo.specs.Overlaid.{overlay_of}
-use Rattle.ctr_redo.specs.Images.{records_in}
-use Rattle.ctr_redo.proofs.PageLaws.{either}
-use Rattle.ctr_redo.proofs.StateLaws.{tables-push}
+use Rattle.ctr_base.specs.meta_Effects.{effect, tables_of}
+use Rattle.ctr_base.specs.meta_Tables.{Tables}
+use Rattle.ctr_base.specs.redo_Overlaid.{overlay_of}
+use Rattle.ctr_base.specs.redo_Images.{records_in}
+use Rattle.ctr_base.proofs.redo_PageLaws.{either}
+use Rattle.ctr_base.proofs.redo_StateLaws.{tables-push}
 use Rattle.ctr_base.specs.declared.base.Base.{Base}
 use Rattle.ctr_store.specs.Redo.{IsNextRecord}
-use Rattle.ctr_redo.specs.Fitting.{LiesInside}
+use Rattle.ctr_base.specs.redo_Fitting.{LiesInside}
 use Rattle.ctr_store.specs.RecordChecks.{overlay_page_check, PassesAs, AllPass, tables_seen}
 
 -- the record of a visit stands where the visit does

@@ -6,26 +6,26 @@ use Rattle.std.proofs.lemmas.Bool.Decides.{eqb_tells}
 use Rattle.std.proofs.lemmas.List.{take_at}
 use Rattle.ctr_types.specs.declared.file.File.{File}
 use Rattle.ctr_types.specs.declared.memory.OutOfMemory.{OutOfMemory as WantOfMemory}
-use Rattle.ctr_home.specs.declared.root.Root.{Root}
+use Rattle.ctr_base.specs.ctr_home.declared.root.Root.{Root}
 use Rattle.ctr_disk.specs.declared.fault.StoreFault.{StoreFault}
 use Rattle.ctr_disk.specs.declared.fault.StoreFault.TheVariants as store
 use Rattle.ctr_disk.specs.Image.{Image, content}
 use Rattle.ctr_bytes.specs.Fields.{field}
 use Rattle.ctr_bytes.proofs.FieldLaws.{field-drop}
-use Rattle.ctr_log.specs.Logs.{Batches, frames, batch, batches, records, AreBatches, HasLog}
-use Rattle.ctr_log.specs.Reading.{log_file}
-use Rattle.ctr_log.specs.Kept.{AreShort, log_in, kept_log, other_file, has_newer, HoldsLog, RefusesKept}
-use Rattle.ctr_log.specs.Visits.{frame_visits, batch_visits, file_visits, kept_visits, visit_bytes, StopsAt, OnRead, IsToldBy}
-use Rattle.ctr_log.specs.declared.visitor.Visit.{Visit}
-use Rattle.ctr_log.specs.declared.visitor.VisitError.{VisitError}
-use Rattle.ctr_log.specs.declared.visitor.VisitError.TheVariants as visit
-use Rattle.ctr_log.specs.declared.reading.ReadError.{ReadError}
-use Rattle.ctr_log.specs.declared.reading.ReadError.TheVariants as read
-use Rattle.ctr_log.proofs.KeptLaws.{picks, passes, begins}
-use Rattle.ctr_log.specs.LogChecks.{sound_kept_visits}
-use Rattle.ctr_log.proofs.LogLemmas.{batch_count}
-use Rattle.ctr_log.proofs.SoundLaws.{kept_front}
-use Rattle.ctr_log.proofs.VisitLaws.{file_bytes, kept_bytes}
+use Rattle.ctr_base.specs.log_Logs.{Batches, frames, batch, batches, records, AreBatches, HasLog}
+use Rattle.ctr_base.specs.log_Reading.{log_file}
+use Rattle.ctr_base.specs.log_Kept.{AreShort, log_in, kept_log, other_file, has_newer, HoldsLog, RefusesKept}
+use Rattle.ctr_base.specs.log_Visits.{frame_visits, batch_visits, file_visits, kept_visits, visit_bytes, StopsAt, OnRead, IsToldBy}
+use Rattle.ctr_base.specs.log_Visit.{Visit}
+use Rattle.ctr_base.specs.log_VisitError.{VisitError}
+use Rattle.ctr_base.specs.log_VisitError.TheVariants as visit
+use Rattle.ctr_base.specs.log_ReadError.{ReadError}
+use Rattle.ctr_base.specs.log_ReadError.TheVariants as read
+use Rattle.ctr_base.proofs.log_KeptLaws.{picks, passes, begins}
+use Rattle.ctr_base.specs.log_LogChecks.{sound_kept_visits}
+use Rattle.ctr_base.proofs.log_LogLemmas.{batch_count}
+use Rattle.ctr_base.proofs.log_SoundLaws.{kept_front}
+use Rattle.ctr_base.proofs.log_VisitLaws.{file_bytes, kept_bytes}
 use Rattle.ctr_rec.specs.declared.decoding.BadRecord.{BadRecord}
 use Rattle.ctr_rec.specs.declared.record.Overlay.{Overlay}
 use Rattle.ctr_rec.specs.declared.record.Record.{Record}
@@ -38,14 +38,14 @@ use Rattle.ctr_rec.specs.Records.{IsRecord}
 use Rattle.ctr_rec.specs.Read.{record_in}
 use Rattle.ctr_rec.proofs.Forms.{reads, parts_pass}
 use Rattle.ctr_rec.proofs.RecordForms.{one_record, is_checkpoint, is_fields}
-use Rattle.ctr_meta.specs.Tables.{Tables, no_tables}
-use Rattle.ctr_meta.specs.Effects.{effect}
-use Rattle.ctr_meta.specs.Needs.{needs}
-use Rattle.ctr_redo.specs.Overlaid.{overlay_of}
-use Rattle.ctr_redo.specs.Fitting.{LiesInside, EachFits, HaveNoCheckpoint, BeginsOnce}
-use Rattle.ctr_redo.specs.Images.{IsSound}
-use Rattle.ctr_redo.proofs.PageLaws.{either}
-use Rattle.ctr_redo.proofs.FitLaws.{tables_behind, tables_behind_is, newer_out, choose_yes, choose_no}
+use Rattle.ctr_base.specs.meta_Tables.{Tables, no_tables}
+use Rattle.ctr_base.specs.meta_Effects.{effect}
+use Rattle.ctr_base.specs.meta_Needs.{needs}
+use Rattle.ctr_base.specs.redo_Overlaid.{overlay_of}
+use Rattle.ctr_base.specs.redo_Fitting.{LiesInside, EachFits, HaveNoCheckpoint, BeginsOnce}
+use Rattle.ctr_base.specs.redo_Images.{IsSound}
+use Rattle.ctr_base.proofs.redo_PageLaws.{either}
+use Rattle.ctr_base.proofs.redo_FitLaws.{tables_behind, tables_behind_is, newer_out, choose_yes, choose_no}
 use Rattle.ctr_store.specs.RecordChecks.{SeenLog, first_record_check, overlay_page_check, IsRefusedBytes, PassesAs, FailsAs, AllPass, RefusesVisit, HasSeen, tables_seen}
 
 -- ---- places

@@ -2,23 +2,23 @@
 use Rattle.std.proofs.Common.{◌≡◌, ⊎_elim, inl, inr, ◌∙◌, ◌<◌, ◌≤◌, ◌^◌, ◌==◌, ◌+◌, ◌-◌, if◌then◌else◌, ℕ, Option, None, Bool, true, false, List, [], ◌∷◌, length, drop, Result, Ok, Err, refl, sym, ap, subst, arith}
 use Rattle.std.specs.Prelude.{IsTrue, OnOk, OnErr, IfOk, IfErr, is_err}
 use Rattle.std.proofs.lemmas.List.{append-nil}
-use Rattle.ctr_log.specs.Logs.{frames}
-use Rattle.ctr_pool.specs.Over.{Pooled, SavesOldest, unchanged}
+use Rattle.ctr_base.specs.log_Logs.{frames}
+use Rattle.ctr_base.specs.pool_Over.{Pooled, SavesOldest, unchanged}
 use Rattle.ctr_disk.specs.declared.disk.Disk.{Ghosts}
 use Rattle.ctr_types.specs.Faults.{HasFault}
 use Rattle.ctr_disk.specs.Image.{Image}
-use Rattle.ctr_home.specs.declared.root.Root.{Root}
+use Rattle.ctr_base.specs.ctr_home.declared.root.Root.{Root}
 use Rattle.ctr_disk.specs.declared.fault.StoreFault.{StoreFault}
 use Rattle.ctr_disk.specs.declared.fault.StoreFault.TheVariants.{Fault}
-use Rattle.ctr_log.proofs.VisitLemmas.{ok_isnt}
+use Rattle.ctr_base.proofs.log_VisitLemmas.{ok_isnt}
 use Rattle.ctr_rec.specs.declared.record.Record.{Record}
-use Rattle.ctr_meta.specs.Needs.{needs}
+use Rattle.ctr_base.specs.meta_Needs.{needs}
 use Rattle.ctr_disk.proofs.Moments.{weaker}
 use Rattle.ctr_base.specs.Base.{waiting_of, now_of, IsSoundImage, HasGate, LeavesBase, LeavesIf, MovesBase, MovesIf, KeepsBase}
 use Rattle.ctr_store.specs.declared.parts.Parts.{Parts}
 use Rattle.ctr_base.specs.Growth.{GrowsBase, AreBlank}
 use Rattle.ctr_base.specs.BaseLaws.{rests_leaves}
-use Rattle.ctr_redo.specs.States.{State, state_of, grown, page_at}
+use Rattle.ctr_base.specs.redo_States.{State, state_of, grown, page_at}
 use Rattle.ctr_store.specs.Parts.{IsFold, HasBuffer, record_end, CanLog, EndsWithin, LogsRecord, LogsRoom, pages_held, some_dirty}
 use Rattle.ctr_store.specs.Store.{View, Logs, LeavesFront, ReachesEnd, HasLongLog, StraysOnlyLong, MovesOn, LeavesPage, MayLog, KeepsRoom, GrowsByExtent, TakesRecord, WritesHome, waiting_bytes}
 use Rattle.ctr_store.specs.Numbers.{NumbersLow}

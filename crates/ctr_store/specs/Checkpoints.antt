@@ -5,9 +5,9 @@ use Rattle.ctr_rec.specs.declared.decoding.BadRecord.{BadRecord}
 use Rattle.ctr_rec.specs.Damage.{at_most}
 use Rattle.ctr_rec.specs.Spelling.{checkpoint_bytes}
 use Rattle.ctr_rec.specs.declared.record.Record.TheVariants.{Checkpoint}
-use Rattle.ctr_meta.specs.Tables.{Tables}
-use Rattle.ctr_meta.specs.Effects.{listed}
-use Rattle.ctr_meta.specs.Kept.{IsLogged}
+use Rattle.ctr_base.specs.meta_Tables.{Tables}
+use Rattle.ctr_base.specs.meta_Effects.{listed}
+use Rattle.ctr_base.specs.meta_Kept.{IsLogged}
 use Rattle.ctr_store.specs.declared.checkpoint.Unmade.{Unmade}
 use Rattle.ctr_store.specs.declared.checkpoint.Unmade.TheVariants.{OutOfMemory, Unfit}
 

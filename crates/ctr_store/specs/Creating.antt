@@ -1,9 +1,9 @@
 -- What the making of a database leaves.
 use Rattle.std.specs.Prelude.{◌≡◌, ◌⊎◌, IsSome, None, Result, Ok, Err, ⊤}
 use Rattle.ctr_disk.specs.Image.{Image}
-use Rattle.ctr_home.specs.declared.block.Block.TheVariants.{Root as RootBlock}
-use Rattle.ctr_home.specs.Blocks.{value_of}
-use Rattle.ctr_redo.specs.Images.{FoldsTo, new_state, IsNewDatabase}
+use Rattle.ctr_base.specs.ctr_home.declared.block.Block.TheVariants.{Root as RootBlock}
+use Rattle.ctr_base.specs.ctr_home.Blocks.{value_of}
+use Rattle.ctr_base.specs.redo_Images.{FoldsTo, new_state, IsNewDatabase}
 use Rattle.ctr_store.specs.declared.creating.CreateError.{CreateError}
 use Rattle.ctr_store.specs.declared.creating.CreateError.TheVariants.{Exists}
 

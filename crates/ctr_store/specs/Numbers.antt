@@ -1,7 +1,7 @@
 -- How large the numbers are that tables count with.
 use Rattle.std.specs.Prelude.{ℕ, ◌+◌, ◌^◌, ◌<◌, ◌≤◌}
 use Rattle.std.specs.List.{AllByRecursion}
-use Rattle.ctr_meta.specs.Tables.{Tables}
+use Rattle.ctr_base.specs.meta_Tables.{Tables}
 
 -- no open transaction has more heads than this
 abbrev pub HeadsWithin : ℕ → Tables → Type 0

@@ -1,32 +1,32 @@
 -- What an opening finds, and how it is refused.
 use Rattle.std.specs.Prelude.{◌≡◌, ◌≢◌, ◌⊎◌, ◌∷◌, ◌++◌, ◌+◌, ◌^◌, ◌≤◌, ◌<◌, List, [], ℕ, length, nat_lt, if◌then◌else◌, ⊤, Option, Some, None, Result, Ok, Err}
 use Rattle.ctr_disk.specs.Image.{Image}
-use Rattle.ctr_home.specs.declared.root.Root.{Root}
+use Rattle.ctr_base.specs.ctr_home.declared.root.Root.{Root}
 use Rattle.ctr_disk.specs.declared.fault.StoreFault.{StoreFault}
 use Rattle.ctr_disk.specs.declared.fault.StoreFault.TheVariants as store
 use Rattle.ctr_disk.specs.declared.disk.Disk.{Ghosts}
-use Rattle.ctr_home.specs.declared.block.Block.TheVariants.{Root as RootBlock}
-use Rattle.ctr_home.specs.Blocks.{value_of}
-use Rattle.ctr_home.specs.Roots.{SaysRoot}
-use Rattle.ctr_redo.specs.States.{state_of, next_of}
-use Rattle.ctr_redo.specs.Images.{records_in, stored_in, FoldsFront}
-use Rattle.ctr_meta.specs.Effects.{tables_of}
+use Rattle.ctr_base.specs.ctr_home.declared.block.Block.TheVariants.{Root as RootBlock}
+use Rattle.ctr_base.specs.ctr_home.Blocks.{value_of}
+use Rattle.ctr_base.specs.ctr_home.Roots.{SaysRoot}
+use Rattle.ctr_base.specs.redo_States.{state_of, next_of}
+use Rattle.ctr_base.specs.redo_Images.{records_in, stored_in, FoldsFront}
+use Rattle.ctr_base.specs.meta_Effects.{tables_of}
 use Rattle.ctr_base.specs.Base.{stored_of, IsSoundImage}
 use Rattle.ctr_store.specs.declared.parts.Parts.{Parts}
 use Rattle.ctr_store.specs.declared.opening.TheConstants.{BUFFER_BYTES}
 use Rattle.ctr_store.specs.Parts.{IsFold, MayCount}
 use Rattle.ctr_store.specs.Numbers.{HeadsWithin}
-use Rattle.ctr_log.specs.declared.reading.ReadError.{ReadError}
-use Rattle.ctr_log.specs.declared.reading.ReadError.TheVariants as read
-use Rattle.ctr_log.specs.Logs.{Log}
-use Rattle.ctr_log.specs.Kept.{kept_log, OpensKept, HoldsLog, WritesBehind}
-use Rattle.ctr_log.specs.LogChecks.{kept_damage, sound_kept_visits}
-use Rattle.ctr_log.specs.Visits.{kept_visits}
-use Rattle.ctr_log.specs.declared.visitor.Visit.{Visit}
+use Rattle.ctr_base.specs.log_ReadError.{ReadError}
+use Rattle.ctr_base.specs.log_ReadError.TheVariants as read
+use Rattle.ctr_base.specs.log_Logs.{Log}
+use Rattle.ctr_base.specs.log_Kept.{kept_log, OpensKept, HoldsLog, WritesBehind}
+use Rattle.ctr_base.specs.log_LogChecks.{kept_damage, sound_kept_visits}
+use Rattle.ctr_base.specs.log_Visits.{kept_visits}
+use Rattle.ctr_base.specs.log_Visit.{Visit}
 use Rattle.ctr_rec.specs.declared.decoding.BadRecord.{BadRecord}
 use Rattle.ctr_base.specs.Opening.{FindsRoot, IsRootDamage}
-use Rattle.ctr_log.specs.declared.opening.OpenError.{OpenError}
-use Rattle.ctr_log.specs.declared.opening.OpenError.TheVariants as open_error
+use Rattle.ctr_base.specs.log_OpenError.{OpenError}
+use Rattle.ctr_base.specs.log_OpenError.TheVariants as open_error
 use Rattle.ctr_store.specs.declared.opening.Found.{Found}
 use Rattle.ctr_store.specs.PageChecks.{PagesPass, FirstPageFails}
 use Rattle.ctr_store.specs.RecordChecks.{record_damage, FailsAs, AllPass, tables_seen}

@@ -6,14 +6,14 @@ use Rattle.ctr_disk.specs.declared.disk.Disk.{Ghosts}
 use Rattle.ctr_disk.specs.Image.{Image}
 use Rattle.ctr_disk.specs.declared.fault.StoreFault.{StoreFault}
 use Rattle.ctr_disk.specs.declared.fault.StoreFault.TheVariants.{Damaged}
-use Rattle.ctr_home.specs.declared.block.Block.TheVariants.{Page}
-use Rattle.ctr_home.specs.Blocks.{value_place}
-use Rattle.ctr_home.specs.Reading.{IsFaultOr, IsMisnumbered}
+use Rattle.ctr_base.specs.ctr_home.declared.block.Block.TheVariants.{Page}
+use Rattle.ctr_base.specs.ctr_home.Blocks.{value_place}
+use Rattle.ctr_base.specs.ctr_home.Reading.{IsFaultOr, IsMisnumbered}
 use Rattle.ctr_rec.specs.declared.record.Overlay.{Overlay}
 use Rattle.ctr_rec.specs.declared.record.Record.{Record}
-use Rattle.ctr_pool.specs.declared.frame.Frame.{Frame}
-use Rattle.ctr_pool.specs.Frames.{frame_of, has_page, page_shown}
-use Rattle.ctr_redo.specs.Overlaid.{overlay_of}
+use Rattle.ctr_base.specs.pool_Frame.{Frame}
+use Rattle.ctr_base.specs.pool_Frames.{frame_of, has_page, page_shown}
+use Rattle.ctr_base.specs.redo_Overlaid.{overlay_of}
 use Rattle.ctr_base.specs.Homes.{FailsHome, PassesHome}
 use Rattle.ctr_base.specs.Base.{home_of, StandsQuiet}
 use Rattle.ctr_store.specs.declared.parts.Parts.{Parts}

@@ -1,26 +1,26 @@
 -- What the parts of a store keep, and what a record adds.
 use Rattle.std.specs.Prelude.{◌≡◌, ◌⊎◌, ℕ, ◌+◌, ◌-◌, ◌^◌, ◌<◌, ◌≤◌, ◌==◌, Bool, List, [], ◌∷◌, ◌++◌, length, take, drop, map, Option, None, Some, is_some, nat_lt, if◌then◌else◌}
 use Rattle.std.specs.List.{list_any}
-use Rattle.ctr_log.specs.Logs.{Log, buffer_size, log_end, frames}
-use Rattle.ctr_redo.specs.Images.{records_in}
+use Rattle.ctr_base.specs.log_Logs.{Log, buffer_size, log_end, frames}
+use Rattle.ctr_base.specs.redo_Images.{records_in}
 use Rattle.ctr_disk.specs.declared.disk.Disk.{Ghosts}
 use Rattle.ctr_disk.specs.Image.{Image}
-use Rattle.ctr_home.specs.declared.block.Block.TheVariants.{Page}
-use Rattle.ctr_home.specs.declared.block.Home.TheVariants.{First}
-use Rattle.ctr_home.specs.Blocks.{home_place, value_place}
+use Rattle.ctr_base.specs.ctr_home.declared.block.Block.TheVariants.{Page}
+use Rattle.ctr_base.specs.ctr_home.declared.block.Home.TheVariants.{First}
+use Rattle.ctr_base.specs.ctr_home.Blocks.{home_place, value_place}
 use Rattle.ctr_rec.specs.declared.record.Record.{Record}
 use Rattle.ctr_rec.specs.Spelling.{record_bytes}
-use Rattle.ctr_meta.specs.Effects.{effect, tables_of}
-use Rattle.ctr_meta.specs.Kept.{IsLogged, MayApply, RoomLeft, opens_added, items_added}
-use Rattle.ctr_pool.specs.declared.frame.Frame.{Frame}
-use Rattle.ctr_pool.specs.Frames.{frame_of, page_shown, since_in}
-use Rattle.ctr_pool.specs.Over.{IsOver, ShowsSame}
-use Rattle.ctr_redo.specs.Overlaid.{overlay_of, overlaid}
-use Rattle.ctr_redo.specs.States.{state_of, step, steps}
+use Rattle.ctr_base.specs.meta_Effects.{effect, tables_of}
+use Rattle.ctr_base.specs.meta_Kept.{IsLogged, MayApply, RoomLeft, opens_added, items_added}
+use Rattle.ctr_base.specs.pool_Frame.{Frame}
+use Rattle.ctr_base.specs.pool_Frames.{frame_of, page_shown, since_in}
+use Rattle.ctr_base.specs.pool_Over.{IsOver, ShowsSame}
+use Rattle.ctr_base.specs.redo_Overlaid.{overlay_of, overlaid}
+use Rattle.ctr_base.specs.redo_States.{state_of, step, steps}
 use Rattle.ctr_base.specs.declared.base.Base.{Base}
 use Rattle.ctr_base.specs.declared.growing.TheConstants.{EXTENT, MOST_PAGES}
 use Rattle.ctr_base.specs.Base.{stored_of, waiting_of, now_of, home_of, IsSoundImage, MovesIf, GoesOnTo, backing_of}
-use Rattle.ctr_redo.specs.Fitting.{LiesInside}
+use Rattle.ctr_base.specs.redo_Fitting.{LiesInside}
 use Rattle.ctr_store.specs.Changes.{IsChange}
 use Rattle.ctr_store.specs.declared.opening.TheConstants.{BUFFER_BYTES}
 use Rattle.ctr_store.specs.declared.parts.Parts.{Parts}

@@ -5,15 +5,15 @@ use Rattle.ctr_types.specs.declared.file.File.{File}
 use Rattle.ctr_disk.specs.declared.fault.StoreFault.{StoreFault}
 use Rattle.ctr_disk.specs.declared.fault.StoreFault.TheVariants.{Damaged}
 use Rattle.ctr_disk.specs.Image.{Image}
-use Rattle.ctr_home.specs.declared.root.Root.{Root}
-use Rattle.ctr_home.specs.declared.block.Block.TheVariants.{Root as RootBlock}
-use Rattle.ctr_home.specs.Blocks.{value_of}
-use Rattle.ctr_home.specs.Roots.{SaysRoot}
+use Rattle.ctr_base.specs.ctr_home.declared.root.Root.{Root}
+use Rattle.ctr_base.specs.ctr_home.declared.block.Block.TheVariants.{Root as RootBlock}
+use Rattle.ctr_base.specs.ctr_home.Blocks.{value_of}
+use Rattle.ctr_base.specs.ctr_home.Roots.{SaysRoot}
 use Rattle.ctr_bytes.specs.Fields.{field}
-use Rattle.ctr_log.specs.declared.visitor.Visit.{Visit}
-use Rattle.ctr_log.specs.declared.reading.ReadError.{ReadError}
-use Rattle.ctr_log.specs.declared.reading.ReadError.TheVariants.{Store, OutOfMemory}
-use Rattle.ctr_log.specs.Visits.{visit_bytes}
+use Rattle.ctr_base.specs.log_Visit.{Visit}
+use Rattle.ctr_base.specs.log_ReadError.{ReadError}
+use Rattle.ctr_base.specs.log_ReadError.TheVariants.{Store, OutOfMemory}
+use Rattle.ctr_base.specs.log_Visits.{visit_bytes}
 use Rattle.ctr_rec.specs.declared.decoding.BadRecord.{BadRecord}
 use Rattle.ctr_rec.specs.declared.record.Overlay.{Overlay}
 use Rattle.ctr_rec.specs.declared.record.Record.{Record}
@@ -22,12 +22,12 @@ use Rattle.ctr_rec.specs.Table.{layout}
 use Rattle.ctr_rec.specs.Damage.{wrong, expect, checks}
 use Rattle.ctr_rec.specs.Checkpoint.{checkpoint_checks}
 use Rattle.ctr_rec.specs.Spelling.{record_bytes}
-use Rattle.ctr_meta.specs.Tables.{Tables}
-use Rattle.ctr_meta.specs.Effects.{tables_of}
-use Rattle.ctr_meta.specs.Needs.{needs}
-use Rattle.ctr_meta.specs.Kept.{IsLogged}
-use Rattle.ctr_redo.specs.Overlaid.{overlay_of}
-use Rattle.ctr_redo.specs.Images.{records_in}
+use Rattle.ctr_base.specs.meta_Tables.{Tables}
+use Rattle.ctr_base.specs.meta_Effects.{tables_of}
+use Rattle.ctr_base.specs.meta_Needs.{needs}
+use Rattle.ctr_base.specs.meta_Kept.{IsLogged}
+use Rattle.ctr_base.specs.redo_Overlaid.{overlay_of}
+use Rattle.ctr_base.specs.redo_Images.{records_in}
 
 -- where the first record of a file stands: behind a gate, the head of a batch, and a length
 abbrev pub first_record_at : ℕ

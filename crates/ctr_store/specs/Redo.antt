@@ -2,22 +2,22 @@
 use Rattle.std.specs.Prelude.{◌≡◌, ℕ, true, ◌+◌, List, [], length, take, Some, slice_get}
 use Rattle.ctr_disk.specs.declared.disk.Disk.{Ghosts}
 use Rattle.ctr_disk.specs.Image.{Image}
-use Rattle.ctr_log.specs.declared.visitor.Visit.{Visit}
-use Rattle.ctr_log.specs.Kept.{kept_log}
-use Rattle.ctr_log.specs.Visits.{visit_bytes, AreNumbered}
+use Rattle.ctr_base.specs.log_Visit.{Visit}
+use Rattle.ctr_base.specs.log_Kept.{kept_log}
+use Rattle.ctr_base.specs.log_Visits.{visit_bytes, AreNumbered}
 use Rattle.ctr_rec.specs.declared.record.Record.{Record}
-use Rattle.ctr_pool.specs.Frames.{has_page, page_shown}
-use Rattle.ctr_pool.specs.Over.{IsOver}
-use Rattle.ctr_redo.specs.Overlaid.{overlay_of, overlaid}
-use Rattle.ctr_home.specs.declared.block.Block.TheVariants.{Root as RootBlock}
-use Rattle.ctr_home.specs.Blocks.{value_of}
-use Rattle.ctr_home.specs.Roots.{SaysRoot}
-use Rattle.ctr_redo.specs.States.{next_of}
+use Rattle.ctr_base.specs.pool_Frames.{has_page, page_shown}
+use Rattle.ctr_base.specs.pool_Over.{IsOver}
+use Rattle.ctr_base.specs.redo_Overlaid.{overlay_of, overlaid}
+use Rattle.ctr_base.specs.ctr_home.declared.block.Block.TheVariants.{Root as RootBlock}
+use Rattle.ctr_base.specs.ctr_home.Blocks.{value_of}
+use Rattle.ctr_base.specs.ctr_home.Roots.{SaysRoot}
+use Rattle.ctr_base.specs.redo_States.{next_of}
 use Rattle.ctr_base.specs.declared.base.Base.{Base}
 use Rattle.ctr_base.specs.Homes.{PassesHome}
 use Rattle.ctr_store.specs.PageChecks.{PagesPass}
 use Rattle.ctr_base.specs.Base.{stored_of, home_of, IsSoundImage, StandsQuiet, IsQuiet, MovesIf, backing_of}
-use Rattle.ctr_redo.specs.Fitting.{LiesInside}
+use Rattle.ctr_base.specs.redo_Fitting.{LiesInside}
 use Rattle.ctr_store.specs.declared.parts.Parts.{Parts}
 use Rattle.ctr_store.specs.RecordChecks.{AllPass, tables_seen}
 

@@ -10,18 +10,18 @@ use Rattle.ctr_disk.specs.Device.{LeavesOnly}
 use Rattle.ctr_rec.specs.declared.record.Record.{Record}
 use Rattle.ctr_rec.specs.Spelling.{record_bytes}
 use Rattle.ctr_rec.specs.declared.decoding.BadRecord.{BadRecord}
-use Rattle.ctr_meta.specs.Kept.{TablesKept, IsLogged, RoomLeft, opens_added, items_added}
-use Rattle.ctr_meta.specs.Effects.{effect}
-use Rattle.ctr_meta.specs.Needs.{needs}
-use Rattle.ctr_redo.specs.Overlaid.{overlay_of}
-use Rattle.ctr_redo.specs.States.{State, steps, counting, grown}
-use Rattle.ctr_redo.specs.Images.{FoldsFront, FoldsGrown}
+use Rattle.ctr_base.specs.meta_Kept.{TablesKept, IsLogged, RoomLeft, opens_added, items_added}
+use Rattle.ctr_base.specs.meta_Effects.{effect}
+use Rattle.ctr_base.specs.meta_Needs.{needs}
+use Rattle.ctr_base.specs.redo_Overlaid.{overlay_of}
+use Rattle.ctr_base.specs.redo_States.{State, steps, counting, grown}
+use Rattle.ctr_base.specs.redo_Images.{FoldsFront, FoldsGrown}
 use Rattle.ctr_base.specs.Base.{IsSoundImage}
 use Rattle.ctr_base.specs.Growth.{AreBlank}
-use Rattle.ctr_redo.specs.Fitting.{LiesInside}
+use Rattle.ctr_base.specs.redo_Fitting.{LiesInside}
 use Rattle.ctr_store.specs.declared.store.TheConstants.{TURN_BYTES, TURN_FRAMES}
 use Rattle.ctr_store.specs.Changes.{IsChange}
-use Rattle.ctr_log.specs.Logs.{frames}
+use Rattle.ctr_base.specs.log_Logs.{frames}
 use Rattle.ctr_store.specs.Parts.{first_unsaved, home_by, record_end}
 use Rattle.ctr_store.specs.RecordChecks.{record_damage}
 

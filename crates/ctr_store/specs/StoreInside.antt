@@ -2,9 +2,9 @@
 use Rattle.std.specs.Prelude.{◌≡◌, ◌+◌, ◌-◌, Bool, false, IsTrue, length}
 use Rattle.ctr_disk.specs.declared.disk.Disk.{Ghosts}
 use Rattle.ctr_disk.specs.Image.{Image}
-use Rattle.ctr_log.specs.Logs.{frames, log_end, next_place}
-use Rattle.ctr_pool.specs.Over.{unchanged}
-use Rattle.ctr_redo.specs.States.{state_of}
+use Rattle.ctr_base.specs.log_Logs.{frames, log_end, next_place}
+use Rattle.ctr_base.specs.pool_Over.{unchanged}
+use Rattle.ctr_base.specs.redo_States.{state_of}
 use Rattle.ctr_base.specs.Base.{stored_of, waiting_of, now_of}
 use Rattle.ctr_store.specs.declared.opening.TheConstants.{BUFFER_BYTES}
 use Rattle.ctr_store.specs.declared.parts.Parts.{Parts}

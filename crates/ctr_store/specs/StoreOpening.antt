@@ -1,13 +1,13 @@
 -- What callers see of an opening.
 use Rattle.std.specs.Prelude.{◌≡◌, ◌+◌, ◌<◌, ◌^◌, false, [], length, None, Some, Result, Ok, Err}
 use Rattle.ctr_disk.specs.Image.{Image}
-use Rattle.ctr_home.specs.declared.root.Root.{Root}
-use Rattle.ctr_log.specs.Kept.{kept_log}
-use Rattle.ctr_meta.specs.Effects.{tables_of}
-use Rattle.ctr_redo.specs.States.{state_of}
-use Rattle.ctr_redo.specs.Images.{records_in, stored_in}
+use Rattle.ctr_base.specs.ctr_home.declared.root.Root.{Root}
+use Rattle.ctr_base.specs.log_Kept.{kept_log}
+use Rattle.ctr_base.specs.meta_Effects.{tables_of}
+use Rattle.ctr_base.specs.redo_States.{state_of}
+use Rattle.ctr_base.specs.redo_Images.{records_in, stored_in}
 use Rattle.ctr_base.specs.Base.{IsSoundImage}
-use Rattle.ctr_log.specs.declared.opening.OpenError.{OpenError}
+use Rattle.ctr_base.specs.log_OpenError.{OpenError}
 use Rattle.ctr_store.specs.declared.opening.TheConstants.{BUFFER_BYTES}
 use Rattle.ctr_store.specs.Parts.{MayCount}
 use Rattle.ctr_store.specs.Store.{View}

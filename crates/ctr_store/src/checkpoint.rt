@@ -1,13 +1,13 @@
 // The Checkpoint that begins a generation of the log: the tables as they are kept.
 ghost use Rattle.std.specs.Prelude.{◌≡◌, ◌≤◌, ◌<◌, ◌+◌, ◌*◌, ◌^◌, [], Ok, Err, length, IfOk, IfErr, OnOk, ⊤};
 ghost use Rattle.std.specs.List.{AllByRecursion};
-ghost use Rattle.ctr_log.specs.Kept.{next_file};
+ghost use Rattle.ctr_base.specs.log_Kept.{next_file};
 ghost use Rattle.ctr_rec.specs.Damage.{at_most};
 ghost use Rattle.ctr_rec.specs.Members.{XidFits, item_xid};
 ghost use Rattle.ctr_store.specs.declared.checkpoint.Unmade.TheVariants.{OutOfMemory as NoMemory, Unfit};
 ghost use Rattle.ctr_store.specs.Checkpoints.{heads_need, checkpoint_need, SpellsTables, IsUnmade};
 
-use ctr_meta::Meta;
+use ctr_base::Meta;
 use ctr_rec::{BadRecord, SlogItem, encode_checkpoint};
 use ctr_types::{File, OutOfMemory, Xid};
 use std::alloc::Global;

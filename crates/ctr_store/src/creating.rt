@@ -3,17 +3,15 @@ ghost use Rattle.std.specs.Prelude.{◌≡◌, ◌≤◌, ◌⊎◌, ◌↔◌, 
 ghost use Rattle.ctr_types.specs.Faults.{HasFault};
 ghost use Rattle.ctr_disk.specs.declared.fault.StoreFault.TheVariants.{Fault};
 ghost use Rattle.ctr_disk.specs.Device.{WhereTold, LeavesOnly, IsDurable, IsSettled, OnlyReads, CountsAs};
-ghost use Rattle.ctr_home.specs.declared.block.Block.TheVariants.{Root as RootBlock};
-ghost use Rattle.ctr_home.specs.Blocks.{value_of};
-ghost use Rattle.ctr_redo.specs.Images.{IsNewDatabase};
+ghost use Rattle.ctr_base.specs.ctr_home.declared.block.Block.TheVariants.{Root as RootBlock};
+ghost use Rattle.ctr_base.specs.ctr_home.Blocks.{value_of};
+ghost use Rattle.ctr_base.specs.redo_Images.{IsNewDatabase};
 ghost use Rattle.ctr_store.specs.Creating.{IsNoneOrNew, IsEmptyStore, IsNoneOrEmptyStore, AnswersCreate, disk_made, making_told};
 ghost use Rattle.ctr_store.specs.declared.creating.CreateError.TheVariants.{Fault as CreateFault};
 ghost use Rattle.ctr_store.specs.declared.creating.Making.TheVariants.{Made, Exists};
 
-use ctr_base::{EXTENT, clear_pages};
+use ctr_base::{Block, EXTENT, Root, clear_pages, is_open, make_logs, write_root};
 use ctr_disk::{Disk, StoreFault};
-use ctr_home::{Block, Root, is_open, write_root};
-use ctr_log::make_logs;
 
 /// No database was made.
 #[derive(Clone, Copy, Debug, PartialEq, Eq)]

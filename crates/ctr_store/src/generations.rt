@@ -2,7 +2,7 @@
 ghost use Rattle.std.specs.Prelude.{◌≡◌, ◌≤◌, ◌↔◌, ◌^◌, ◌++◌, ◌-◌, [], ◌∷◌, IsTrue, Err, length, drop, OnOk, OnErr};
 ghost use Rattle.ctr_disk.specs.declared.fault.StoreFault.TheVariants.{Fault};
 ghost use Rattle.ctr_disk.specs.Device.{WhereTold, CountsAs};
-ghost use Rattle.ctr_log.specs.Kept.{CanBegin, IsStarted, KeepsWriter};
+ghost use Rattle.ctr_base.specs.log_Kept.{CanBegin, IsStarted, KeepsWriter};
 ghost use Rattle.ctr_rec.specs.Read.{record_in};
 ghost use Rattle.ctr_base.specs.Base.{WhereSound, IsSoundImage, stored_of, LeavesIf};
 ghost use Rattle.ctr_base.specs.Generations.{KeepsFold, NamesNewer};

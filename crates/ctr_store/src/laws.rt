@@ -2,10 +2,10 @@
 // ensures is the law.
 ghost use Rattle.std.specs.Prelude.{◌≡◌, ◌+◌, ℕ, List, [], length, take, ⊤, Result};
 ghost use Rattle.ctr_disk.specs.Image.{Image};
-ghost use Rattle.ctr_redo.specs.States.{State};
-ghost use Rattle.ctr_redo.specs.Images.{FoldsFront, FoldsGrown, IsNewDatabase};
+ghost use Rattle.ctr_base.specs.redo_States.{State};
+ghost use Rattle.ctr_base.specs.redo_Images.{FoldsFront, FoldsGrown, IsNewDatabase};
 ghost use Rattle.ctr_rec.specs.declared.record.Record.{Record};
-ghost use Rattle.ctr_meta.specs.Effects.{effect, tables_of};
+ghost use Rattle.ctr_base.specs.meta_Effects.{effect, tables_of};
 ghost use Rattle.ctr_base.specs.declared.base.Base.{Base as Under};
 ghost use Rattle.ctr_base.specs.Base.{stored_of, IsSoundImage, StandsQuiet};
 ghost use Rattle.ctr_store.specs.declared.parts.Parts.{Parts as Whole};

@@ -1,27 +1,25 @@
 // Opening: the root, the log with its records' checks, and the pages that its records are on.
 ghost use Rattle.std.specs.Prelude.{◌≡◌, ◌⊎◌, ◌≤◌, ◌<◌, ◌+◌, ◌^◌, IsTrue, ℕ, [], Ok, Err, None, length, IfOk, IfErr, OnOk};
 ghost use Rattle.ctr_disk.specs.Device.{WhereTold, LeavesOnly, IsDurable, OnlyReads, CountsAs};
-ghost use Rattle.ctr_home.specs.declared.block.Block.TheVariants.{Root as RootBlock};
-ghost use Rattle.ctr_home.specs.Blocks.{value_of};
-ghost use Rattle.ctr_home.specs.Roots.{IsRoot, SaysRoot};
+ghost use Rattle.ctr_base.specs.ctr_home.declared.block.Block.TheVariants.{Root as RootBlock};
+ghost use Rattle.ctr_base.specs.ctr_home.Blocks.{value_of};
+ghost use Rattle.ctr_base.specs.ctr_home.Roots.{IsRoot, SaysRoot};
 ghost use Rattle.ctr_store.specs.RecordChecks.{AllPass};
 ghost use Rattle.ctr_store.specs.Opening.{IsEmptyWithRoom, IsNewlyOpened, FindsLog, FindsFront, RefusesLog, RefusesAs, OpensParts, disk_left, opening_told, worn_by, IsWornBy, IsLater, IsUndamaged, AnswersOpen, LeavesFirst};
-ghost use Rattle.ctr_log.specs.declared.opening.OpenError.TheVariants.{Fault, OutOfMemory as NoMemory};
-ghost use Rattle.ctr_redo.specs.States.{state_of};
+ghost use Rattle.ctr_base.specs.log_OpenError.TheVariants.{Fault, OutOfMemory as NoMemory};
+ghost use Rattle.ctr_base.specs.redo_States.{state_of};
 ghost use Rattle.ctr_store.specs.Numbers.{HeadsWithin};
-ghost use Rattle.ctr_redo.specs.Images.{stored_in, IsSound, FoldsFront};
+ghost use Rattle.ctr_base.specs.redo_Images.{stored_in, IsSound, FoldsFront};
 ghost use Rattle.ctr_disk.specs.declared.fault.StoreFault.TheVariants.{Fault as StoreFailed};
-ghost use Rattle.ctr_log.specs.declared.reading.ReadError.TheVariants.{Store as ReadStore, OutOfMemory as ReadMemory};
+ghost use Rattle.ctr_base.specs.log_ReadError.TheVariants.{Store as ReadStore, OutOfMemory as ReadMemory};
 ghost use Rattle.ctr_base.specs.Base.{WhereSound, IsSoundImage};
 
 use crate::parts::Parts;
 use crate::seen::Seen;
-use ctr_base::{Base, Origin, find_root};
+use ctr_base::{
+    Base, LogFile, Meta, OpenError, Origin, Pool, ReadError, Root, Visit, find_root, read_all,
+};
 use ctr_disk::{Disk, StoreFault};
-use ctr_home::Root;
-use ctr_log::{LogFile, OpenError, ReadError, Visit, read_all};
-use ctr_meta::Meta;
-use ctr_pool::Pool;
 use ctr_types::List;
 use std::alloc::Global;
 use std::marker::PhantomData;

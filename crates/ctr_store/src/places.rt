@@ -3,15 +3,14 @@ ghost use Rattle.std.specs.Prelude.{◌≡◌, ◌<◌, ◌^◌, true, IsTrue, E
 ghost use Rattle.ctr_types.specs.Faults.{HasFault};
 ghost use Rattle.ctr_disk.specs.Device.{WhereTold, OnlyReads, CountsAs};
 ghost use Rattle.ctr_disk.specs.declared.fault.StoreFault.TheVariants.{Fault};
-ghost use Rattle.ctr_pool.specs.Frames.{has_page};
-ghost use Rattle.ctr_pool.specs.Over.{IsOver};
+ghost use Rattle.ctr_base.specs.pool_Frames.{has_page};
+ghost use Rattle.ctr_base.specs.pool_Over.{IsOver};
 ghost use Rattle.ctr_base.specs.Base.{IsSoundImage, LeavesIf, MovesIf, KeepsBase, backing_of};
 ghost use Rattle.ctr_store.specs.Parts.{IsFold, home_at};
 
 use crate::parts::Parts;
-use ctr_base::Origin;
+use ctr_base::{Block, Home, Origin};
 use ctr_disk::{Disk, StoreFault};
-use ctr_home::{Block, Home};
 use ctr_rec::PageNo;
 
 impl<D: Disk, O: Origin> Parts<D, O> {

@@ -4,25 +4,24 @@ ghost use Rattle.std.specs.Prelude.{◌≡◌, ◌≤◌, ◌<◌, ◌+◌, IsTr
 ghost use Rattle.ctr_types.specs.Faults.{HasFault};
 ghost use Rattle.ctr_disk.specs.declared.fault.StoreFault.TheVariants.{Fault};
 ghost use Rattle.ctr_rec.specs.declared.record.Record.{Record as Logged};
-ghost use Rattle.ctr_meta.specs.Tables.{Tables};
+ghost use Rattle.ctr_base.specs.meta_Tables.{Tables};
 ghost use Rattle.ctr_rec.specs.Records.{IsRecord};
 ghost use Rattle.ctr_rec.specs.Spelling.{record_bytes};
 ghost use Rattle.ctr_store.specs.RecordChecks.{PassesAs, AllPass};
-ghost use Rattle.ctr_pool.specs.Over.{IsOver};
-ghost use Rattle.ctr_redo.specs.Overlaid.{overlay_of};
+ghost use Rattle.ctr_base.specs.pool_Over.{IsOver};
+ghost use Rattle.ctr_base.specs.redo_Overlaid.{overlay_of};
 ghost use Rattle.ctr_base.specs.declared.base.Base.{Base as Under};
 ghost use Rattle.ctr_base.specs.Base.{stored_of, IsSoundImage, LeavesIf, MovesIf, KeepsBase, backing_of};
-ghost use Rattle.ctr_redo.specs.States.{next_of};
-ghost use Rattle.ctr_home.specs.Reading.{IsFaultOr};
+ghost use Rattle.ctr_base.specs.redo_States.{next_of};
+ghost use Rattle.ctr_base.specs.ctr_home.Reading.{IsFaultOr};
 ghost use Rattle.ctr_store.specs.PageChecks.{PageFails, PagesPass, FirstPageFails};
 ghost use Rattle.ctr_store.specs.Parts.{IsFold, AreLow};
 ghost use Rattle.ctr_store.specs.Redo.{RedoesPages, IsNextRecord, Begins};
 
 use crate::parts::Parts;
 use crate::spelling::overlay_of;
-use ctr_base::Origin;
+use ctr_base::{Lsn, Origin, Visit};
 use ctr_disk::{Disk, StoreFault};
-use ctr_log::{Lsn, Visit};
 use ctr_rec::{Overlay, decode};
 
 impl<D: Disk, O: Origin> Parts<D, O> {

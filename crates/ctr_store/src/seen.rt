@@ -1,19 +1,17 @@
 // A visitor of a log that checks each record and lays it into the tables.
 ghost use Rattle.std.specs.Prelude.{◌≡◌, ◌<◌, ◌+◌, ◌^◌, MatchResult, [], ◌∷◌, ◌++◌, Ok, IsTrue, IfErr, OnOk, OnErr};
 ghost use Rattle.ctr_bytes.specs.Fields.{field};
-ghost use Rattle.ctr_redo.specs.Overlaid.{overlay_of};
+ghost use Rattle.ctr_base.specs.redo_Overlaid.{overlay_of};
 ghost use Rattle.ctr_disk.specs.declared.fault.StoreFault.TheVariants.{Damaged};
-ghost use Rattle.ctr_log.specs.declared.reading.ReadError.TheVariants.{Store, OutOfMemory as NoMemory};
+ghost use Rattle.ctr_base.specs.log_ReadError.TheVariants.{Store, OutOfMemory as NoMemory};
 ghost use Rattle.ctr_store.specs.RecordChecks.{first_record_check, overlay_page_check, record_damage, PassesAs, FailsAs, AllPass, CountsPages, tables_seen};
-ghost use Rattle.ctr_log.specs.Visits.{visit_of};
+ghost use Rattle.ctr_base.specs.log_Visits.{visit_of};
 ghost use Rattle.ctr_store.specs.Numbers.{HeadsWithin};
 
 use crate::spelling::overlay_of;
-use ctr_base::Origin;
+use ctr_base::{Lsn, Meta, Origin, ReadError, Visit, Visitor, room_for};
 use ctr_bytes::get_u8;
 use ctr_disk::{Disk, StoreFault};
-use ctr_log::{Lsn, ReadError, Visit, Visitor};
-use ctr_meta::{Meta, room_for};
 use ctr_rec::{BadRecord, Record, decode, expect};
 use ctr_types::{Damage, File, List, Text};
 use std::alloc::Global;
@@ -123,7 +121,7 @@ pub fn damage_at(file: File, at: u64, bad: BadRecord) -> StoreFault
 }
 
 impl<D: Disk, O: Origin> Seen<D, O> {
-    ghost use Rattle.ctr_meta.specs.Tables.{no_tables};
+    ghost use Rattle.ctr_base.specs.meta_Tables.{no_tables};
 
     /// Nothing was given yet, of a log over so many pages. It takes no memory.
     pub fn new(alloc: Global, pages: u32) -> Seen<D, O>

@@ -2,10 +2,10 @@
 ghost use Rattle.std.specs.Prelude.{◌≡◌, ◌≤◌, ◌<◌, ◌+◌, ◌-◌, ◌^◌, ◌++◌, [], ◌∷◌, length};
 ghost use Rattle.ctr_rec.specs.Records.{IsRecord};
 ghost use Rattle.ctr_rec.specs.Spelling.{record_bytes};
-ghost use Rattle.ctr_redo.specs.Overlaid.{overlay_of};
+ghost use Rattle.ctr_base.specs.redo_Overlaid.{overlay_of};
 ghost use Rattle.ctr_store.specs.Changes.{IsChange};
 
-use ctr_log::{LogFile, Lsn};
+use ctr_base::{LogFile, Lsn};
 use ctr_rec::{Form, Overlay, Record, encode, to_form};
 
 /// How many bytes a record has at most that is no Checkpoint: its number, two fields, and an overlay of a page.

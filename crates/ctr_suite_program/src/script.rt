@@ -3,7 +3,8 @@ use crate::numbers::{hex_bytes, split_number};
 use std::alloc::{AllocError, Global};
 
 /// Adds what a line says to a script, by the mark before it: `|` a line, `|-` a line without its end, `|x` bytes in
-/// base 16, `|each FROM TO` a line for each number, in place of its `#`, and `|fill COUNT BYTE` the same byte so often.
+/// base 16, `|each FROM TO` a line for each number, in place of its `#` (`^` ends a line within it), and `|fill COUNT BYTE` the same
+/// byte so often.
 /// None where the line is none of these.
 pub fn add_line(
     alloc: Global,
@@ -61,10 +62,10 @@ fn add_numbered(
 ) -> Result<(), AllocError> {
     let digits = format!(in alloc; "{number}")?;
     for byte in line {
-        if *byte == b'#' {
-            script.extend_from_slice(digits.as_bytes())?;
-        } else {
-            script.push(*byte)?;
+        match *byte {
+            b'#' => script.extend_from_slice(digits.as_bytes())?,
+            b'^' => script.push(b'\n')?,
+            _ => script.push(*byte)?,
         }
     }
     script.push(b'\n')?;

@@ -16,8 +16,8 @@ use Rattle.ctr_area.specs.Chains.{slot_places}
 use Rattle.ctr_area.specs.Images.{is_committed_in, is_live, is_standing, rows_of_entry}
 use Rattle.ctr_area.specs.Sound.{AreKeyed}
 use Rattle.ctr_record_laws.proofs.Gathering.{matches, is_match, match_key, match_used, sorted-gathered, found_here, none_found}
-use Rattle.ctr_views.specs.Scanning.{AreScanned}
-use Rattle.ctr_views.proofs.Scanning.{scanned_alike}
+use Rattle.ctr_reading.specs.ctr_views.Scanning.{AreScanned}
+use Rattle.ctr_reading.proofs.views_Scanning.{scanned_alike}
 use Rattle.ctr_reading.specs.declared.sight.Sight.{Sight}
 use Rattle.ctr_reading.specs.Reading.{AreShown, sees}
 use Rattle.ctr_survey.specs.declared.entries.MadeBy.{MadeBy}

@@ -10,9 +10,8 @@ ghost use Rattle.ctr_survey.specs.Standing.{CountsEntry, AreCounts, SeesCommitte
 
 use crate::entries::{made, stands};
 use ctr_base::Origin;
-use ctr_chain::ReadRefusal;
 use ctr_disk::Disk;
-use ctr_reading::{Sight, rows_of_table};
+use ctr_reading::{ReadRefusal, Sight, rows_of_table};
 use ctr_store::Store;
 use std::alloc::Global;
 

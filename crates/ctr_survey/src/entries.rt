@@ -7,8 +7,8 @@ ghost use Rattle.ctr_page.specs.declared.table.TheConstants.{PAGE_SIZE};
 ghost use Rattle.ctr_record_effects.specs.States.{pages_in, area_in};
 ghost use Rattle.ctr_record_effects.specs.Standing.{IsDatabaseState};
 ghost use Rattle.ctr_walk.specs.Damage.{searched, EndsOnPage, ReadsPages};
-ghost use Rattle.ctr_catalog.specs.Finding.{checks_at};
-ghost use Rattle.ctr_catalog.specs.Columns.{EndsChecked};
+ghost use Rattle.ctr_reading.specs.catalog_Finding.{checks_at};
+ghost use Rattle.ctr_reading.specs.catalog_Columns.{EndsChecked};
 ghost use Rattle.ctr_reading.specs.Reading.{sees};
 ghost use Rattle.ctr_survey.specs.Standing.{made_by, MadeSaid, stands_made};
 
@@ -16,10 +16,9 @@ use ctr_base::Origin;
 use ctr_disk::{Disk, StoreFault};
 use ctr_meta::{Meta, is_seen};
 use ctr_page::{BadPage, EntryState, check_entry, read_entry};
-use ctr_reading::Sight;
+use ctr_reading::{Sight, a_catalog_search_meets_no_damage};
 use ctr_store::Store;
 use ctr_types::Xid;
-use ctr_undamaged::a_catalog_search_meets_no_damage;
 use ctr_walk::{SearchFault, catalog_page, found_on, tell};
 
 /// Who made a table, and who dropped it, 0 for nobody.

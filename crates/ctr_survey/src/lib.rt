@@ -8,4 +8,5 @@ mod laws;
 mod noting;
 mod surveying;
 
+pub use ctr_stops::an_opened_store_keeps_commits;
 pub use surveying::{SurveyRefusal, survey};

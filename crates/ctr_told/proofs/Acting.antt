@@ -16,8 +16,8 @@ use Rattle.ctr_legal.proofs.Reached.{final_push}
 use Rattle.ctr_model.specs.Tape.{statement_of, final, IsActOf}
 use Rattle.ctr_versions.proofs.Keys.{some_is}
 use Rattle.ctr_legal.specs.Ready.{IsNext, IsReady, IsReached}
-use Rattle.ctr_kept.specs.Walk.{Mind}
-use Rattle.ctr_kept.specs.Turns.{Start, InTransaction, Telling, MayCome, entry_of, start_point, point_now, state_now}
+use Rattle.ctr_rollback.specs.kept_Walk.{Mind}
+use Rattle.ctr_rollback.specs.kept_Turns.{Start, InTransaction, Telling, MayCome, entry_of, start_point, point_now, state_now}
 
 module _ (c : Start) (now s : ℕ) (w : Mind) (e : Telling c now s) (a : Act) (r : Reply) (comes : MayCome c w e a r) where
   -- it is the next act of the statement that is told

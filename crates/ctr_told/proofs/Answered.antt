@@ -9,8 +9,8 @@ use Rattle.ctr_model.specs.Reply.{next_from}
 use Rattle.ctr_model.specs.State.{without_transaction}
 use Rattle.ctr_model.specs.Tape.{statement_of, final}
 use Rattle.ctr_legal.proofs.Reached.{final_push}
-use Rattle.ctr_kept.specs.Walk.{Mind}
-use Rattle.ctr_kept.specs.Turns.{Start, InTransaction, Telling, entry_of, start_point, state_now}
+use Rattle.ctr_rollback.specs.kept_Walk.{Mind}
+use Rattle.ctr_rollback.specs.kept_Turns.{Start, InTransaction, Telling, entry_of, start_point, state_now}
 
 pub answer_leaves : (c : Start) (now s : ℕ) (w : Mind) (seat : InTransaction c w s) (e : Telling c now s) (v : Mind)
     → v.tape ≡ w.tape ++ entry_of s e act.Answer (reply.Answered ((state_now c w).answered + 1)) ∷ []

@@ -10,20 +10,20 @@ use Rattle.ctr_versions.specs.Keys.{schema_writes}
 use Rattle.ctr_versions.proofs.Keys.{known}
 use Rattle.ctr_area.specs.Areas.{Title}
 use Rattle.ctr_area.specs.Images.{is_live}
-use Rattle.ctr_record_laws.specs.Owed.{IsNameFreeFor}
+use Rattle.ctr_rollback.specs.record_laws_Owed.{IsNameFreeFor}
 use Rattle.ctr_legal.specs.Kept.{IsKept, IsFirm}
 use Rattle.ctr_sessions.proofs.Own.{last_none}
-use Rattle.ctr_names.specs.Search.{IsEntryFound}
-use Rattle.ctr_names.proofs.Entries.{named_so, name_of}
-use Rattle.ctr_names.proofs.Held.{name_alone}
-use Rattle.ctr_names.proofs.Search.{undropped_found, found_undropped}
-use Rattle.ctr_actions.specs.Facts.{HasTable}
-use Rattle.ctr_actions.specs.Sites.{Site}
-use Rattle.ctr_paged.specs.Paged.{xids_of}
-use Rattle.ctr_paged.specs.Shown.{Scene, IsShown}
+use Rattle.ctr_views.specs.names_Search.{IsEntryFound}
+use Rattle.ctr_views.proofs.names_Entries.{named_so, name_of}
+use Rattle.ctr_views.proofs.names_Held.{name_alone}
+use Rattle.ctr_views.proofs.names_Search.{undropped_found, found_undropped}
+use Rattle.ctr_rollback.specs.actions_Facts.{HasTable}
+use Rattle.ctr_views.specs.actions_Sites.{Site}
+use Rattle.ctr_views.specs.paged_Paged.{xids_of}
+use Rattle.ctr_views.specs.paged_Shown.{Scene, IsShown}
 use Rattle.ctr_views.specs.Viewing.{Viewer, sees_by}
 use Rattle.ctr_views.proofs.Looking.{names_shown, look, looking, found_as, as_found}
-use Rattle.ctr_kept.specs.Carried.{IsUnderLock}
+use Rattle.ctr_rollback.specs.kept_Carried.{IsUnderLock}
 
 module _ (low : ℕ) (site : Site) (scene : Scene) (shown : IsShown low site scene) (kept : IsKept scene.state) (v : Viewer scene) where
   pub firm : IsFirm scene.state.asked v.t

@@ -9,14 +9,14 @@ use Rattle.ctr_versions.specs.Engine.{SessionHeld}
 use Rattle.ctr_versions.proofs.Keys.{some_is}
 use Rattle.ctr_page.specs.declared.header.Header.{Header}
 use Rattle.ctr_area.specs.Sound.{IsAmong}
-use Rattle.ctr_actions.specs.Facts.{Fact, HasBlank, HoldsFact}
-use Rattle.ctr_actions.specs.Sites.{Site}
-use Rattle.ctr_kept.specs.Carried.{IsUnderLock}
-use Rattle.ctr_kept.specs.Walk.{Mind, with_facts}
-use Rattle.ctr_kept.specs.Turns.{Start, KeepsRun, InTransaction, Carries, carrying, scene_now, state_now}
-use Rattle.ctr_kept.proofs.Turning.{MovesOne, silent_scene}
-use Rattle.ctr_kept.proofs.Walking.{keeps_on}
-use Rattle.ctr_stops.specs.Pages.{CountsOnNoMore}
+use Rattle.ctr_rollback.specs.actions_Facts.{Fact, HasBlank, HoldsFact}
+use Rattle.ctr_views.specs.actions_Sites.{Site}
+use Rattle.ctr_rollback.specs.kept_Carried.{IsUnderLock}
+use Rattle.ctr_rollback.specs.kept_Walk.{Mind, with_facts}
+use Rattle.ctr_rollback.specs.kept_Turns.{Start, KeepsRun, InTransaction, Carries, carrying, scene_now, state_now}
+use Rattle.ctr_rollback.proofs.kept_Turning.{MovesOne, silent_scene}
+use Rattle.ctr_rollback.proofs.kept_Walking.{keeps_on}
+use Rattle.ctr_rollback.specs.stops_Pages.{CountsOnNoMore}
 
 at_once : (n : ℕ) → n ≤ n
 at_once n = omega arith

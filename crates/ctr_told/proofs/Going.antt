@@ -10,19 +10,19 @@ use Rattle.ctr_page.specs.Columns.{kinds_of, kinds_width}
 use Rattle.ctr_page.specs.Damage.{chain_entry}
 use Rattle.ctr_page.specs.Places.{bucket_of}
 use Rattle.ctr_area.specs.Areas.{Title}
-use Rattle.ctr_record_effects.specs.States.{area_in}
-use Rattle.ctr_record_laws.specs.Owed.{IsSlotOfKey}
-use Rattle.ctr_actions.specs.Facts.{Fact}
-use Rattle.ctr_store.specs.Store.{View}
-use Rattle.ctr_kept.specs.Walk.{Mind}
-use Rattle.ctr_kept.specs.Turns.{Start, carrying}
-use Rattle.ctr_stops.specs.World.{KeepsWorld}
-use Rattle.ctr_extend.specs.declared.ways.OnWay.{OnWay}
-use Rattle.ctr_extend.specs.declared.ways.OnWay.TheVariants.{Wanted}
-use Rattle.ctr_extend.specs.declared.ways.Extended.{Extended}
-use Rattle.ctr_extend.specs.declared.ways.Extended.TheVariants.{On as OnItsWay, Linked, Grown as IsGrown, Full as IsFull}
-use Rattle.ctr_extend.specs.Keeping.{WantsPage, facts_on_way, way_behind, HasLogged}
-use Rattle.ctr_extend.specs.Steps.{ExtendsBy}
+use Rattle.ctr_rollback.specs.record_effects_States.{area_in}
+use Rattle.ctr_rollback.specs.record_laws_Owed.{IsSlotOfKey}
+use Rattle.ctr_rollback.specs.actions_Facts.{Fact}
+use Rattle.ctr_rollback.specs.store_Store.{View}
+use Rattle.ctr_rollback.specs.kept_Walk.{Mind}
+use Rattle.ctr_rollback.specs.kept_Turns.{Start, carrying}
+use Rattle.ctr_rollback.specs.stops_World.{KeepsWorld}
+use Rattle.ctr_write.specs.ctr_extend.declared.ways.OnWay.{OnWay}
+use Rattle.ctr_write.specs.ctr_extend.declared.ways.OnWay.TheVariants.{Wanted}
+use Rattle.ctr_write.specs.ctr_extend.declared.ways.Extended.{Extended}
+use Rattle.ctr_write.specs.ctr_extend.declared.ways.Extended.TheVariants.{On as OnItsWay, Linked, Grown as IsGrown, Full as IsFull}
+use Rattle.ctr_write.specs.ctr_extend.Keeping.{WantsPage, facts_on_way, way_behind, HasLogged}
+use Rattle.ctr_write.specs.ctr_extend.Steps.{ExtendsBy}
 use Rattle.ctr_write.specs.declared.stages.Stage.{Stage}
 use Rattle.ctr_write.specs.declared.stages.Stage.TheVariants.{Looking, Extending, Kept}
 use Rattle.ctr_write.specs.declared.stages.Written.{Written}

@@ -14,7 +14,7 @@ use Rattle.ctr_model.specs.Tape.{acts_of}
 use Rattle.ctr_legal.proofs.Cover.{less_any}
 use Rattle.ctr_versions.specs.Laws.{IsGranted}
 use Rattle.ctr_versions.proofs.Keys.{known, some_is}
-use Rattle.ctr_paged.specs.Moving.{HoldsAll}
+use Rattle.ctr_rollback.specs.paged_Moving.{HoldsAll}
 
 abbrev same_so : (t u : Transaction) → Type 0
 same_so t u = IsGranted t u × HoldsAll t u × ((name : List ℕ) → has_name name t.uses ≡ true → has_name name u.uses ≡ true)

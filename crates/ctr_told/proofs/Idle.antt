@@ -5,12 +5,12 @@ use Rattle.ctr_model.specs.declared.state.Transaction.{Transaction}
 use Rattle.ctr_page.specs.declared.header.Header.{Header}
 use Rattle.ctr_area.specs.Sound.{IsAmong}
 use Rattle.ctr_area.proofs.Buckets.{each_of}
-use Rattle.ctr_actions.specs.Facts.{Fact, IsOpen, HasBlank, HasNoPageBut, HoldsFact}
-use Rattle.ctr_actions.specs.Sites.{Site}
-use Rattle.ctr_kept.specs.Carried.{IsUnderLock, IsOfEntry}
-use Rattle.ctr_kept.specs.Tables.{AreTables}
-use Rattle.ctr_kept.specs.Turns.{Carries}
-use Rattle.ctr_kept.proofs.Tables.{UsesStill, among_last, by_parts, no_blank, carries_more}
+use Rattle.ctr_rollback.specs.actions_Facts.{Fact, IsOpen, HasBlank, HasNoPageBut, HoldsFact}
+use Rattle.ctr_views.specs.actions_Sites.{Site}
+use Rattle.ctr_rollback.specs.kept_Carried.{IsUnderLock, IsOfEntry}
+use Rattle.ctr_rollback.specs.kept_Tables.{AreTables}
+use Rattle.ctr_rollback.specs.kept_Turns.{Carries}
+use Rattle.ctr_rollback.proofs.kept_Tables.{UsesStill, among_last, by_parts, no_blank, carries_more}
 use Rattle.ctr_told.specs.Turning.{facts_idle}
 
 pub carried_idle : (x : ℕ) (t : Transaction) (z : Site) → HoldsFact x IsOpen z → HoldsFact x (HasNoPageBut []) z → Carries x t facts_idle z

@@ -12,22 +12,22 @@ use Rattle.ctr_area.specs.Areas.{Title}
 use Rattle.ctr_area.specs.Sound.{IsAmong}
 use Rattle.ctr_area.proofs.Buckets.{each_of}
 use Rattle.ctr_redo.specs.States.{State}
-use Rattle.ctr_record_laws.specs.Owed.{Writing, FirstVersion}
-use Rattle.ctr_actions.specs.Sites.{Site}
-use Rattle.ctr_actions.specs.Facts.{Fact, IsOpen, HasTable, HasBlank, HasNoPageBut, HoldsFact}
-use Rattle.ctr_kept.specs.Carried.{IsUnderLock, IsOfEntry}
-use Rattle.ctr_kept.specs.Turns.{Carries}
-use Rattle.ctr_extend.specs.declared.ways.OnWay.{OnWay}
-use Rattle.ctr_extend.specs.declared.ways.OnWay.TheVariants.{Wanted, Taken, Made}
-use Rattle.ctr_extend.specs.declared.ways.Extended.{Extended}
-use Rattle.ctr_extend.specs.declared.ways.Extended.TheVariants.{On as OnItsWay, Linked, Grown as IsGrown, Full as IsFull}
+use Rattle.ctr_rollback.specs.record_laws_Owed.{Writing, FirstVersion}
+use Rattle.ctr_views.specs.actions_Sites.{Site}
+use Rattle.ctr_rollback.specs.actions_Facts.{Fact, IsOpen, HasTable, HasBlank, HasNoPageBut, HoldsFact}
+use Rattle.ctr_rollback.specs.kept_Carried.{IsUnderLock, IsOfEntry}
+use Rattle.ctr_rollback.specs.kept_Turns.{Carries}
+use Rattle.ctr_write.specs.ctr_extend.declared.ways.OnWay.{OnWay}
+use Rattle.ctr_write.specs.ctr_extend.declared.ways.OnWay.TheVariants.{Wanted, Taken, Made}
+use Rattle.ctr_write.specs.ctr_extend.declared.ways.Extended.{Extended}
+use Rattle.ctr_write.specs.ctr_extend.declared.ways.Extended.TheVariants.{On as OnItsWay, Linked, Grown as IsGrown, Full as IsFull}
 use Rattle.ctr_write.specs.declared.stages.Stage.{Stage}
 use Rattle.ctr_write.specs.declared.stages.Stage.TheVariants.{Looking, Extending, Kept}
 use Rattle.ctr_write.specs.declared.stages.Written.{Written}
 use Rattle.ctr_write.specs.declared.stages.Written.TheVariants.{On, Done, Grown, Full}
-use Rattle.ctr_kept.proofs.Tables.{among_last}
-use Rattle.ctr_extend.specs.Keeping.{facts_on_way}
-use Rattle.ctr_extend.specs.Steps.{ExtendsBy}
+use Rattle.ctr_rollback.proofs.kept_Tables.{among_last}
+use Rattle.ctr_write.specs.ctr_extend.Keeping.{facts_on_way}
+use Rattle.ctr_write.specs.ctr_extend.Steps.{ExtendsBy}
 use Rattle.ctr_write.specs.Carrying.{facts_looking, facts_kept, AreOfStage}
 use Rattle.ctr_write.specs.Extending.{ExtendsFor, written_from}
 use Rattle.ctr_write.specs.Laying.{Wish, LaysHead}

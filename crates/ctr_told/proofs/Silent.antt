@@ -6,12 +6,12 @@ use Rattle.std.specs.FinMap.Entries.{find}
 use Rattle.ctr_model.specs.declared.state.Transaction.{Transaction}
 use Rattle.ctr_versions.specs.Engine.{SessionHeld}
 use Rattle.ctr_area.specs.Sound.{IsAmong}
-use Rattle.ctr_actions.specs.Facts.{Fact, IsOpen, HasBlank, HasNoPageBut}
-use Rattle.ctr_actions.specs.Sites.{Site}
-use Rattle.ctr_kept.specs.Walk.{Mind, with_facts}
-use Rattle.ctr_kept.specs.Turns.{Start, KeepsRun, InTransaction, Carries, carrying}
-use Rattle.ctr_kept.proofs.Tables.{UsesStill}
-use Rattle.ctr_stops.specs.Pages.{CountsOnNoMore}
+use Rattle.ctr_rollback.specs.actions_Facts.{Fact, IsOpen, HasBlank, HasNoPageBut}
+use Rattle.ctr_views.specs.actions_Sites.{Site}
+use Rattle.ctr_rollback.specs.kept_Walk.{Mind, with_facts}
+use Rattle.ctr_rollback.specs.kept_Turns.{Start, KeepsRun, InTransaction, Carries, carrying}
+use Rattle.ctr_rollback.proofs.kept_Tables.{UsesStill}
+use Rattle.ctr_rollback.specs.stops_Pages.{CountsOnNoMore}
 use Rattle.ctr_told.specs.Turning.{IsIdle}
 use Rattle.ctr_told.proofs.Idle.{carried_more, idle_more, idle_open, idle_none}
 

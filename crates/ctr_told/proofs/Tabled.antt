@@ -10,27 +10,27 @@ use Rattle.ctr_versions.specs.Chains.{changed_since}
 use Rattle.ctr_versions.specs.Keys.{schema_writes}
 use Rattle.ctr_area.specs.Images.{is_committed_in, is_live}
 use Rattle.ctr_area.specs.Sound.{IsAmong, stands_for}
-use Rattle.ctr_record_effects.specs.States.{area_in}
-use Rattle.ctr_record_laws.specs.Owed.{IsNameFreeFor, OwedByDrop}
-use Rattle.ctr_record_laws.proofs.Xids.{in_among}
+use Rattle.ctr_rollback.specs.record_effects_States.{area_in}
+use Rattle.ctr_rollback.specs.record_laws_Owed.{IsNameFreeFor, OwedByDrop}
+use Rattle.ctr_rollback.proofs.record_laws_Xids.{in_among}
 use Rattle.ctr_legal.specs.Kept.{IsKept}
-use Rattle.ctr_names.proofs.Entries.{name_of}
-use Rattle.ctr_names.proofs.Search.{unseen, found_undropped}
+use Rattle.ctr_views.proofs.names_Entries.{name_of}
+use Rattle.ctr_views.proofs.names_Search.{unseen, found_undropped}
 use Rattle.ctr_area.specs.Areas.{Title}
 use Rattle.ctr_area.proofs.Buckets.{each_of}
-use Rattle.ctr_actions.specs.Facts.{Fact, IsOpen, HasPage, HasNoPageBut, HasBlank, HasSlot, HasCopy, HasTable, HoldsFact}
-use Rattle.ctr_actions.specs.Sites.{Site, site_of}
-use Rattle.ctr_paged.specs.Moving.{IsActing}
-use Rattle.ctr_paged.specs.Paged.{xids_of}
-use Rattle.ctr_paged.specs.Shown.{Scene, IsShown}
-use Rattle.ctr_store.specs.Store.{View}
+use Rattle.ctr_rollback.specs.actions_Facts.{Fact, IsOpen, HasPage, HasNoPageBut, HasBlank, HasSlot, HasCopy, HasTable, HoldsFact}
+use Rattle.ctr_views.specs.actions_Sites.{Site, site_of}
+use Rattle.ctr_rollback.specs.paged_Moving.{IsActing}
+use Rattle.ctr_views.specs.paged_Paged.{xids_of}
+use Rattle.ctr_views.specs.paged_Shown.{Scene, IsShown}
+use Rattle.ctr_rollback.specs.store_Store.{View}
 use Rattle.ctr_views.specs.Viewing.{Viewer}
 use Rattle.ctr_views.proofs.Looking.{names_shown, look, looking}
-use Rattle.ctr_kept.specs.Carried.{IsUnderLock}
-use Rattle.ctr_kept.specs.Tables.{IsTable, AreTables}
-use Rattle.ctr_kept.specs.Walk.{Mind}
-use Rattle.ctr_kept.specs.Turns.{Start, scene_now, state_now}
-use Rattle.ctr_kept.proofs.Walking.{keeps_reached}
+use Rattle.ctr_rollback.specs.kept_Carried.{IsUnderLock}
+use Rattle.ctr_rollback.specs.kept_Tables.{IsTable, AreTables}
+use Rattle.ctr_rollback.specs.kept_Walk.{Mind}
+use Rattle.ctr_rollback.specs.kept_Turns.{Start, scene_now, state_now}
+use Rattle.ctr_rollback.proofs.kept_Walking.{keeps_reached}
 use Rattle.ctr_told.specs.Tables.{IsAtTable, FindsIt}
 use Rattle.ctr_told.proofs.Counted.{firm, alone, quiet}
 use Rattle.ctr_told.proofs.Idle.{idle_open, idle_none, idle_more}

@@ -6,11 +6,11 @@ use Rattle.ctr_page.specs.declared.checks.Chain.TheVariants.{Rows, Versions}
 use Rattle.ctr_page.specs.Places.{bucket_of}
 use Rattle.ctr_page.specs.declared.rows.Place.{Place}
 use Rattle.ctr_redo.specs.States.{State, counting, grown}
-use Rattle.ctr_extend.specs.declared.ways.OnWay.{OnWay}
-use Rattle.ctr_extend.specs.declared.ways.OnWay.TheVariants.{Wanted, Taken, Made}
-use Rattle.ctr_extend.specs.declared.ways.Extended.{Extended}
-use Rattle.ctr_extend.specs.declared.ways.Extended.TheVariants.{On as OnItsWay, Linked, Grown as IsGrown, Full as IsFull}
-use Rattle.ctr_extend.specs.Steps.{ExtendsBy, IsFull as HasNoPage}
+use Rattle.ctr_write.specs.ctr_extend.declared.ways.OnWay.{OnWay}
+use Rattle.ctr_write.specs.ctr_extend.declared.ways.OnWay.TheVariants.{Wanted, Taken, Made}
+use Rattle.ctr_write.specs.ctr_extend.declared.ways.Extended.{Extended}
+use Rattle.ctr_write.specs.ctr_extend.declared.ways.Extended.TheVariants.{On as OnItsWay, Linked, Grown as IsGrown, Full as IsFull}
+use Rattle.ctr_write.specs.ctr_extend.Steps.{ExtendsBy, IsFull as HasNoPage}
 use Rattle.ctr_write.specs.declared.stages.Stage.{Stage}
 use Rattle.ctr_write.specs.declared.stages.Stage.TheVariants.{Looking, Extending, Kept}
 use Rattle.ctr_write.specs.declared.stages.Written.{Written}

@@ -5,15 +5,15 @@ use Rattle.ctr_model.specs.State.{has_name}
 use Rattle.ctr_versions.specs.Engine.{IsCalm}
 use Rattle.ctr_area.specs.Areas.{Title}
 use Rattle.ctr_area.specs.Sound.{IsAmong}
-use Rattle.ctr_actions.specs.Facts.{Fact, HasTable}
-use Rattle.ctr_paged.specs.Paged.{xids_of}
-use Rattle.ctr_names.specs.Search.{IsEntryFound, finds}
-use Rattle.ctr_record_effects.specs.States.{area_in}
-use Rattle.ctr_store.specs.Store.{View}
-use Rattle.ctr_kept.specs.Tables.{AreTables}
-use Rattle.ctr_kept.specs.Walk.{Mind}
-use Rattle.ctr_kept.specs.Turns.{Start, InTransaction}
-use Rattle.ctr_stops.specs.World.{KeepsWorld}
+use Rattle.ctr_rollback.specs.actions_Facts.{Fact, HasTable}
+use Rattle.ctr_views.specs.paged_Paged.{xids_of}
+use Rattle.ctr_views.specs.names_Search.{IsEntryFound, finds}
+use Rattle.ctr_rollback.specs.record_effects_States.{area_in}
+use Rattle.ctr_rollback.specs.store_Store.{View}
+use Rattle.ctr_rollback.specs.kept_Tables.{AreTables}
+use Rattle.ctr_rollback.specs.kept_Walk.{Mind}
+use Rattle.ctr_rollback.specs.kept_Turns.{Start, InTransaction}
+use Rattle.ctr_rollback.specs.stops_World.{KeepsWorld}
 use Rattle.ctr_told.specs.Turning.{facts_idle}
 
 -- A World in which a session that has a number holds a name, whose table it makes or drops. It

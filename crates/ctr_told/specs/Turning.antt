@@ -4,12 +4,12 @@ use Rattle.std.specs.Ordering.{nat_cmp}
 use Rattle.ctr_disk.specs.declared.disk.Disk.{Ghosts}
 use Rattle.ctr_model.specs.Maps.{without}
 use Rattle.ctr_model.specs.State.{transaction_of}
-use Rattle.ctr_actions.specs.Facts.{Fact, IsOpen, HasNoPageBut}
-use Rattle.ctr_store.specs.Store.{View}
-use Rattle.ctr_kept.specs.Tables.{AreTables}
-use Rattle.ctr_kept.specs.Walk.{Mind}
-use Rattle.ctr_kept.specs.Turns.{Start, InTransaction, Telling, state_now}
-use Rattle.ctr_stops.specs.World.{KeepsWorld}
+use Rattle.ctr_rollback.specs.actions_Facts.{Fact, IsOpen, HasNoPageBut}
+use Rattle.ctr_rollback.specs.store_Store.{View}
+use Rattle.ctr_rollback.specs.kept_Tables.{AreTables}
+use Rattle.ctr_rollback.specs.kept_Walk.{Mind}
+use Rattle.ctr_rollback.specs.kept_Turns.{Start, InTransaction, Telling, state_now}
+use Rattle.ctr_rollback.specs.stops_World.{KeepsWorld}
 
 -- Between two statements a session that has a number counts on its transaction, and on that it has
 -- no page to link.

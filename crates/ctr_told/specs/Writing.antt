@@ -6,9 +6,9 @@ use Rattle.ctr_model.specs.Refusals.{table_of, key_written}
 use Rattle.ctr_model.specs.State.{view}
 use Rattle.ctr_versions.specs.Keys.{row_written}
 use Rattle.ctr_area.specs.Reading.{version_said}
-use Rattle.ctr_store.specs.Store.{View}
-use Rattle.ctr_kept.specs.Walk.{Mind}
-use Rattle.ctr_kept.specs.Turns.{Start, Telling, state_now}
+use Rattle.ctr_rollback.specs.store_Store.{View}
+use Rattle.ctr_rollback.specs.kept_Walk.{Mind}
+use Rattle.ctr_rollback.specs.kept_Turns.{Start, Telling, state_now}
 use Rattle.ctr_write.specs.Carrying.{IsAtWrite}
 
 -- The statement writes the row of the key, in the table of the title: its one change is the row of

@@ -2,16 +2,16 @@
 ghost use Rattle.std.specs.Prelude.{◌≡◌, ◌+◌, ℕ, []};
 ghost use Rattle.ctr_types.specs.declared.tape.Act.TheVariants as act;
 ghost use Rattle.ctr_types.specs.declared.tape.Reply.TheVariants as reply;
-ghost use Rattle.ctr_store.specs.Store.{View};
-ghost use Rattle.ctr_kept.specs.Walk.{Mind};
-ghost use Rattle.ctr_kept.specs.Turns.{Start, MayCome, telling, state_now};
-ghost use Rattle.ctr_stops.specs.World.{KeepsWorld};
-ghost use Rattle.ctr_page_turns.specs.Turns.{RestsBehind};
+ghost use Rattle.ctr_rollback.specs.store_Store.{View};
+ghost use Rattle.ctr_rollback.specs.kept_Walk.{Mind};
+ghost use Rattle.ctr_rollback.specs.kept_Turns.{Start, MayCome, telling, state_now};
+ghost use Rattle.ctr_rollback.specs.stops_World.{KeepsWorld};
+ghost use Rattle.ctr_rollback.specs.page_turns_Turns.{RestsBehind};
 ghost use Rattle.ctr_told.specs.Turning.{TellsOf, answered_mind};
 
 use ctr_disk::Disk;
 use ctr_legal::numbers_are_own;
-use ctr_stops::answers_and_growth_are_kept;
+use ctr_rollback::answers_and_growth_are_kept;
 
 /// Where nothing waits in the log, the commit that was asked for first of those that aren't answered may be answered, whoever flushed: the turn
 /// that tells it keeps the World, in which its transaction is gone.

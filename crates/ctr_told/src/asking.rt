@@ -2,25 +2,25 @@
 ghost use Rattle.std.specs.Prelude.{◌≡◌, ◌<◌, ◌+◌, ◌++◌, ℕ, List, length};
 ghost use Rattle.ctr_types.specs.declared.tape.Act.TheVariants as act;
 ghost use Rattle.ctr_types.specs.declared.tape.Reply.TheVariants as reply;
-ghost use Rattle.ctr_actions.specs.Actions.{Commits, Owes};
+ghost use Rattle.ctr_rollback.specs.actions_Actions.{Commits, Owes};
 ghost use Rattle.ctr_area.specs.Sound.{IsAmong};
-ghost use Rattle.ctr_actions.specs.Facts.{Fact};
-ghost use Rattle.ctr_actions.specs.Sites.{site_of};
-ghost use Rattle.ctr_store.specs.Store.{View};
-ghost use Rattle.ctr_kept.specs.Tables.{AreTables};
-ghost use Rattle.ctr_kept.specs.Walk.{Mind};
-ghost use Rattle.ctr_kept.specs.Turns.{Start, InTransaction, MayCome, telling, carrying, asked_scene, state_now};
-ghost use Rattle.ctr_stops.specs.World.{KeepsWorld};
-ghost use Rattle.ctr_page_turns.specs.Acts.{ActsBy};
-ghost use Rattle.ctr_page_turns.specs.Turns.{LogsAtRest};
+ghost use Rattle.ctr_rollback.specs.actions_Facts.{Fact};
+ghost use Rattle.ctr_views.specs.actions_Sites.{site_of};
+ghost use Rattle.ctr_rollback.specs.store_Store.{View};
+ghost use Rattle.ctr_rollback.specs.kept_Tables.{AreTables};
+ghost use Rattle.ctr_rollback.specs.kept_Walk.{Mind};
+ghost use Rattle.ctr_rollback.specs.kept_Turns.{Start, InTransaction, MayCome, telling, carrying, asked_scene, state_now};
+ghost use Rattle.ctr_rollback.specs.stops_World.{KeepsWorld};
+ghost use Rattle.ctr_rollback.specs.page_turns_Acts.{ActsBy};
+ghost use Rattle.ctr_rollback.specs.page_turns_Turns.{LogsAtRest};
 ghost use Rattle.ctr_told.specs.Turning.{facts_idle, TellsOf};
 
 use crate::counting::a_session_may_count_on_what_holds;
 use crate::entries::an_entry_with_a_record_is_kept;
-use ctr_actions::{what_is_done_stays, what_is_held_pays};
 use ctr_disk::Disk;
-use ctr_kept::{a_commit_is_asked_for, who_rolls_back_is_at_its_rollback};
+use ctr_rollback::{a_commit_is_asked_for, who_rolls_back_is_at_its_rollback};
 use ctr_sessions::locks_keep_others_off;
+use ctr_views::{what_is_done_stays, what_is_held_pays};
 
 /// A session that has a number may ask for its commit between two statements; the turn that does so keeps the World, whose tape tells
 /// the next commit number. From then on the session counts on tables alone.

@@ -5,16 +5,16 @@ ghost use Rattle.ctr_page.specs.declared.header.Header.{Header};
 ghost use Rattle.ctr_area.specs.Areas.{Title};
 ghost use Rattle.ctr_area.specs.Sound.{IsAmong};
 ghost use Rattle.ctr_legal.specs.Kept.{IsKept};
-ghost use Rattle.ctr_names.specs.Search.{IsEntryFound};
-ghost use Rattle.ctr_actions.specs.Facts.{Fact, HasBlank, HasTable};
-ghost use Rattle.ctr_actions.specs.Sites.{Site, site_of};
-ghost use Rattle.ctr_paged.specs.Shown.{Scene, IsShown};
-ghost use Rattle.ctr_store.specs.Store.{View};
+ghost use Rattle.ctr_views.specs.names_Search.{IsEntryFound};
+ghost use Rattle.ctr_rollback.specs.actions_Facts.{Fact, HasBlank, HasTable};
+ghost use Rattle.ctr_views.specs.actions_Sites.{Site, site_of};
+ghost use Rattle.ctr_views.specs.paged_Shown.{Scene, IsShown};
+ghost use Rattle.ctr_rollback.specs.store_Store.{View};
 ghost use Rattle.ctr_views.specs.Viewing.{Viewer, sees_by};
-ghost use Rattle.ctr_kept.specs.Carried.{IsUnderLock};
-ghost use Rattle.ctr_kept.specs.Walk.{Mind};
-ghost use Rattle.ctr_kept.specs.Turns.{Start, InTransaction, Carries, carrying};
-ghost use Rattle.ctr_stops.specs.World.{KeepsWorld};
+ghost use Rattle.ctr_rollback.specs.kept_Carried.{IsUnderLock};
+ghost use Rattle.ctr_rollback.specs.kept_Walk.{Mind};
+ghost use Rattle.ctr_rollback.specs.kept_Turns.{Start, InTransaction, Carries, carrying};
+ghost use Rattle.ctr_rollback.specs.stops_World.{KeepsWorld};
 
 use ctr_disk::Disk;
 

@@ -6,20 +6,20 @@ ghost use Rattle.ctr_model.specs.State.{transaction_of};
 ghost use Rattle.ctr_model.specs.Tape.{is_answer};
 ghost use Rattle.ctr_page.specs.declared.header.Header.{Header};
 ghost use Rattle.ctr_area.specs.Sound.{IsAmong};
-ghost use Rattle.ctr_actions.specs.Actions.{Action, site_after};
-ghost use Rattle.ctr_actions.specs.Facts.{Fact, HasBlank};
-ghost use Rattle.ctr_actions.specs.Sites.{site_of};
-ghost use Rattle.ctr_store.specs.Store.{View};
-ghost use Rattle.ctr_kept.specs.Walk.{Mind, with_facts};
-ghost use Rattle.ctr_kept.specs.Turns.{Start, KeepsRun, InTransaction, state_now};
-ghost use Rattle.ctr_stops.specs.Pages.{CountsOnNoMore, OthersAreHeld};
-ghost use Rattle.ctr_stops.specs.World.{KeepsWorld};
-ghost use Rattle.ctr_page_turns.specs.Acts.{ActsBy};
-ghost use Rattle.ctr_page_turns.specs.Turns.{LogsAtRest, RestsBehind};
+ghost use Rattle.ctr_rollback.specs.actions_Actions.{Action, site_after};
+ghost use Rattle.ctr_rollback.specs.actions_Facts.{Fact, HasBlank};
+ghost use Rattle.ctr_views.specs.actions_Sites.{site_of};
+ghost use Rattle.ctr_rollback.specs.store_Store.{View};
+ghost use Rattle.ctr_rollback.specs.kept_Walk.{Mind, with_facts};
+ghost use Rattle.ctr_rollback.specs.kept_Turns.{Start, KeepsRun, InTransaction, state_now};
+ghost use Rattle.ctr_rollback.specs.stops_Pages.{CountsOnNoMore, OthersAreHeld};
+ghost use Rattle.ctr_rollback.specs.stops_World.{KeepsWorld};
+ghost use Rattle.ctr_rollback.specs.page_turns_Acts.{ActsBy};
+ghost use Rattle.ctr_rollback.specs.page_turns_Turns.{LogsAtRest, RestsBehind};
 
 use ctr_disk::Disk;
 use ctr_model::states_grow;
-use ctr_stops::{a_turn_of_a_world_is_kept, an_action_keeps_the_pages};
+use ctr_rollback::{a_turn_of_a_world_is_kept, an_action_keeps_the_pages};
 
 /// An entry that is no answer keeps the World, where the walk is kept: of a turn that logged nothing, and by which nobody asks for a commit.
 pub(crate) fn an_entry_alone_is_kept<D: Disk>()

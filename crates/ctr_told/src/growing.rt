@@ -2,15 +2,16 @@
 ghost use Rattle.std.specs.Prelude.{Ok};
 ghost use Rattle.ctr_disk.specs.Image.{Image};
 ghost use Rattle.ctr_base.specs.Base.{WhereSound};
-ghost use Rattle.ctr_store.specs.Store.{View};
-ghost use Rattle.ctr_kept.specs.Walk.{Mind};
-ghost use Rattle.ctr_kept.specs.Turns.{Start};
-ghost use Rattle.ctr_stops.specs.World.{KeepsWorld};
-ghost use Rattle.ctr_page_turns.specs.Turns.{CountsBehind};
+ghost use Rattle.ctr_rollback.specs.store_Store.{View};
+ghost use Rattle.ctr_rollback.specs.kept_Walk.{Mind};
+ghost use Rattle.ctr_rollback.specs.kept_Turns.{Start};
+ghost use Rattle.ctr_rollback.specs.stops_World.{KeepsWorld};
+ghost use Rattle.ctr_rollback.specs.page_turns_Turns.{CountsBehind};
 
 use ctr_disk::Disk;
-use ctr_kept::time_and_growth_are_kept;
-use ctr_stops::{a_turn_of_a_world_is_kept, answers_and_growth_are_kept};
+use ctr_rollback::{
+    a_turn_of_a_world_is_kept, answers_and_growth_are_kept, time_and_growth_are_kept,
+};
 
 /// A turn that read pages and then counted more keeps the World as it is: nothing is told, and each session counts on what it did.
 pub fn growth_behind_pages_keeps_a_world<D: Disk, T>()

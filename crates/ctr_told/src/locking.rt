@@ -2,22 +2,24 @@
 ghost use Rattle.std.specs.Prelude.{◌≡◌, ◌<◌, ◌++◌, ℕ, List};
 ghost use Rattle.ctr_types.specs.declared.tape.Act.TheVariants as act;
 ghost use Rattle.ctr_types.specs.declared.tape.Reply.TheVariants as reply;
-ghost use Rattle.ctr_actions.specs.Actions.{Begins};
-ghost use Rattle.ctr_store.specs.Store.{View};
-ghost use Rattle.ctr_actions.specs.Facts.{Fact};
-ghost use Rattle.ctr_kept.specs.Tables.{AreTables};
-ghost use Rattle.ctr_kept.specs.Walk.{Mind};
-ghost use Rattle.ctr_kept.specs.Turns.{Start, MayCome, telling, carrying, drawn_mind};
-ghost use Rattle.ctr_stops.specs.World.{KeepsWorld};
-ghost use Rattle.ctr_page_turns.specs.Acts.{ActsBy};
-ghost use Rattle.ctr_page_turns.specs.Turns.{LogsAtRest, RestsBehind};
+ghost use Rattle.ctr_rollback.specs.actions_Actions.{Begins};
+ghost use Rattle.ctr_rollback.specs.store_Store.{View};
+ghost use Rattle.ctr_rollback.specs.actions_Facts.{Fact};
+ghost use Rattle.ctr_rollback.specs.kept_Tables.{AreTables};
+ghost use Rattle.ctr_rollback.specs.kept_Walk.{Mind};
+ghost use Rattle.ctr_rollback.specs.kept_Turns.{Start, MayCome, telling, carrying, drawn_mind};
+ghost use Rattle.ctr_rollback.specs.stops_World.{KeepsWorld};
+ghost use Rattle.ctr_rollback.specs.page_turns_Acts.{ActsBy};
+ghost use Rattle.ctr_rollback.specs.page_turns_Turns.{LogsAtRest, RestsBehind};
 ghost use Rattle.ctr_told.specs.Turning.{facts_idle, TellsOf};
 
 use crate::entries::an_entry_alone_is_kept;
-use ctr_actions::{an_action_gives_its_fact, what_is_done_stays};
 use ctr_disk::Disk;
-use ctr_kept::{a_number_is_drawn, locks_and_reads_are_kept, who_draws_a_number_has_no_page};
-use ctr_stops::{a_turn_of_a_world_is_kept, an_action_keeps_the_pages};
+use ctr_rollback::{
+    a_number_is_drawn, a_turn_of_a_world_is_kept, an_action_keeps_the_pages,
+    locks_and_reads_are_kept, who_draws_a_number_has_no_page,
+};
+use ctr_views::{an_action_gives_its_fact, what_is_done_stays};
 
 /// The first Lock of a session draws its number, by one record, and keeps the World.
 pub fn a_first_lock_is_told<D: Disk>()

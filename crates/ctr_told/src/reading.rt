@@ -6,18 +6,18 @@ ghost use Rattle.ctr_types.specs.declared.tape.Refusal.{Refusal};
 ghost use Rattle.ctr_types.specs.declared.tape.Reply.TheVariants as reply;
 ghost use Rattle.ctr_types.specs.declared.value.Rows.{Rows};
 ghost use Rattle.ctr_model.specs.State.{transaction_of};
-ghost use Rattle.ctr_actions.specs.Facts.{Fact};
-ghost use Rattle.ctr_actions.specs.Sites.{site_of};
-ghost use Rattle.ctr_store.specs.Store.{View};
-ghost use Rattle.ctr_kept.specs.Walk.{Mind};
-ghost use Rattle.ctr_kept.specs.Turns.{Start, Telling, MayCome, telling, begun_mind, gone_mind, state_now};
-ghost use Rattle.ctr_stops.specs.World.{KeepsWorld};
-ghost use Rattle.ctr_page_turns.specs.Turns.{RestsBehind};
+ghost use Rattle.ctr_rollback.specs.actions_Facts.{Fact};
+ghost use Rattle.ctr_views.specs.actions_Sites.{site_of};
+ghost use Rattle.ctr_rollback.specs.store_Store.{View};
+ghost use Rattle.ctr_rollback.specs.kept_Walk.{Mind};
+ghost use Rattle.ctr_rollback.specs.kept_Turns.{Start, Telling, MayCome, telling, begun_mind, gone_mind, state_now};
+ghost use Rattle.ctr_rollback.specs.stops_World.{KeepsWorld};
+ghost use Rattle.ctr_rollback.specs.page_turns_Turns.{RestsBehind};
 ghost use Rattle.ctr_told.specs.Turning.{TellsOf, TellsOutside, IsIdle};
 
 use crate::entries::an_entry_alone_is_kept;
 use ctr_disk::Disk;
-use ctr_kept::{
+use ctr_rollback::{
     a_reader_ends, a_refusal_outside_is_kept, a_session_begins, locks_and_reads_are_kept,
 };
 

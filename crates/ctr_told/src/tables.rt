@@ -6,22 +6,22 @@ ghost use Rattle.ctr_types.specs.declared.statement.Statement.TheVariants as st;
 ghost use Rattle.ctr_types.specs.declared.value.Schema.{Schema};
 ghost use Rattle.ctr_model.specs.Database.{table_at};
 ghost use Rattle.ctr_model.specs.State.{view};
-ghost use Rattle.ctr_actions.specs.Actions.{Drops};
-ghost use Rattle.ctr_actions.specs.Facts.{Fact};
-ghost use Rattle.ctr_store.specs.Store.{View};
-ghost use Rattle.ctr_kept.specs.Walk.{Mind};
-ghost use Rattle.ctr_kept.specs.Turns.{Start, Telling, MayCome, telling, carrying, state_now};
-ghost use Rattle.ctr_stops.specs.World.{KeepsWorld};
-ghost use Rattle.ctr_page_turns.specs.Acts.{ActsBy};
-ghost use Rattle.ctr_page_turns.specs.Turns.{LogsAtRest};
+ghost use Rattle.ctr_rollback.specs.actions_Actions.{Drops};
+ghost use Rattle.ctr_rollback.specs.actions_Facts.{Fact};
+ghost use Rattle.ctr_rollback.specs.store_Store.{View};
+ghost use Rattle.ctr_rollback.specs.kept_Walk.{Mind};
+ghost use Rattle.ctr_rollback.specs.kept_Turns.{Start, Telling, MayCome, telling, carrying, state_now};
+ghost use Rattle.ctr_rollback.specs.stops_World.{KeepsWorld};
+ghost use Rattle.ctr_rollback.specs.page_turns_Acts.{ActsBy};
+ghost use Rattle.ctr_rollback.specs.page_turns_Turns.{LogsAtRest};
 ghost use Rattle.ctr_ddl.specs.Tables.{MayMake, MayDrop, IsMadeAt};
 ghost use Rattle.ctr_told.specs.Tables.{IsAtTable, FindsIt, AreOthers};
 ghost use Rattle.ctr_told.specs.Turning.{facts_idle};
 
 use crate::entries::an_entry_with_a_record_is_kept;
-use ctr_actions::{ones_own_action_leaves_what_is_held, what_is_done_stays};
 use ctr_disk::Disk;
-use ctr_kept::a_write_is_kept;
+use ctr_rollback::a_write_is_kept;
+use ctr_views::{ones_own_action_leaves_what_is_held, what_is_done_stays};
 
 /// Whoever holds a name may make a table of it, where its view has none, and may drop the one that it finds.
 pub fn a_table_may_be_made_or_dropped<D: Disk>()

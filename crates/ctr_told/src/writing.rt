@@ -6,13 +6,13 @@ ghost use Rattle.ctr_base.specs.declared.growing.TheConstants.{MOST_PAGES};
 ghost use Rattle.ctr_redo.specs.States.{State, counting, grown};
 ghost use Rattle.ctr_area.specs.Areas.{Title};
 ghost use Rattle.ctr_area.specs.Sound.{IsAmong};
-ghost use Rattle.ctr_actions.specs.Facts.{Fact, HasNoPageBut};
-ghost use Rattle.ctr_store.specs.Store.{View};
-ghost use Rattle.ctr_extend.specs.Steps.{IsFull};
-ghost use Rattle.ctr_kept.specs.Walk.{Mind};
-ghost use Rattle.ctr_kept.specs.Turns.{Start, Telling, MayCome, telling, carrying};
-ghost use Rattle.ctr_stops.specs.World.{KeepsWorld};
-ghost use Rattle.ctr_page_turns.specs.Turns.{LogsAtRest};
+ghost use Rattle.ctr_rollback.specs.actions_Facts.{Fact, HasNoPageBut};
+ghost use Rattle.ctr_rollback.specs.store_Store.{View};
+ghost use Rattle.ctr_write.specs.ctr_extend.Steps.{IsFull};
+ghost use Rattle.ctr_rollback.specs.kept_Walk.{Mind};
+ghost use Rattle.ctr_rollback.specs.kept_Turns.{Start, Telling, MayCome, telling, carrying};
+ghost use Rattle.ctr_rollback.specs.stops_World.{KeepsWorld};
+ghost use Rattle.ctr_rollback.specs.page_turns_Turns.{LogsAtRest};
 ghost use Rattle.ctr_write.specs.declared.stages.Written.TheVariants.{On, Done, Grown, Full};
 ghost use Rattle.ctr_write.specs.declared.stages.Stage.{Stage};
 ghost use Rattle.ctr_write.specs.Carrying.{IsAtWrite, AreOfStage, facts_looking, wish_of};
@@ -22,12 +22,12 @@ ghost use Rattle.ctr_told.specs.Writing.{IsOfStatement};
 
 use crate::counting::a_table_that_is_counted_on_is_found;
 use crate::entries::an_entry_with_a_record_is_kept;
-use ctr_actions::{ones_own_action_leaves_what_is_held, what_is_done_stays};
 use ctr_disk::Disk;
-use ctr_extend::a_turn_for_a_page_is_kept;
-use ctr_kept::{a_write_is_kept, who_rolls_back_is_at_its_rollback};
+use ctr_rollback::{a_write_is_kept, who_rolls_back_is_at_its_rollback};
 use ctr_sessions::locks_keep_others_off;
+use ctr_views::{ones_own_action_leaves_what_is_held, what_is_done_stays};
 use ctr_write::a_turn_of_a_write_is_kept;
+use ctr_write::extend::a_turn_for_a_page_is_kept;
 
 /// A turn of a Write that goes on keeps the World, in which the session counts on how far it is by then.
 pub fn a_write_that_goes_on_is_kept<D: Disk>()

@@ -21,7 +21,7 @@ use Rattle.ctr_record_effects.specs.States.{pages_in, area_in}
 use Rattle.ctr_record_effects.specs.Changing.{laid_on_place}
 use Rattle.ctr_record_laws.specs.Owed.{Trimming, CutHead, CutPrevious, FreeTombstone}
 use Rattle.ctr_passed.specs.Logged.{IsSlotOf}
-use Rattle.ctr_heap.specs.Writing.{slot_width}
+use Rattle.ctr_undamaged.specs.heap_Writing.{slot_width}
 use Rattle.ctr_pvs.specs.Reading.{row_check_at}
 use Rattle.ctr_pvs.specs.Slots.{SlotLiesAt}
 use Rattle.ctr_trim.specs.declared.slots.TrimWay.{TrimWay}

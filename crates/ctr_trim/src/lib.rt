@@ -10,6 +10,7 @@ mod freeing;
 mod slots;
 mod trimming;
 
+pub use ctr_undamaged::a_row_is_read_without_damage;
 pub use cutting::cut_behind;
 pub use freeing::free_loose;
 pub use slots::TrimWay;

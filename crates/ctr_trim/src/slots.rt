@@ -2,7 +2,7 @@
 ghost use Rattle.std.specs.Prelude.{◌≡◌, ◌≤◌, length, replicate, take};
 ghost use Rattle.ctr_page.specs.Places.{slot_size as size_of_slot};
 ghost use Rattle.ctr_page.specs.Making.{slot_bytes, IsSlot};
-ghost use Rattle.ctr_heap.specs.Writing.{slot_width};
+ghost use Rattle.ctr_undamaged.specs.heap_Writing.{slot_width};
 ghost use Rattle.ctr_pvs.specs.Slots.{slot_lent};
 ghost use Rattle.ctr_trim.specs.Trimming.{slot_left, IsBytesOf};
 

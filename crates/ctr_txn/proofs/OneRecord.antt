@@ -12,13 +12,13 @@ use Rattle.ctr_model.specs.Maps.{without}
 use Rattle.ctr_rec.specs.declared.record.Record.TheVariants.{Begin, Commit, Abort}
 use Rattle.ctr_meta.specs.Tables.{Tables}
 use Rattle.ctr_meta.specs.Effects.{effect}
-use Rattle.ctr_redo.specs.Overlaid.{touches, changed_by}
-use Rattle.ctr_redo.specs.States.{State, step, pages_after}
-use Rattle.ctr_actions.specs.Sites.{site_of}
-use Rattle.ctr_actions.specs.Actions.{Begins, Commits, Aborts, site_after}
+use Rattle.ctr_walk.specs.redo_Overlaid.{touches, changed_by}
+use Rattle.ctr_walk.specs.redo_States.{State, step, pages_after}
+use Rattle.ctr_paged.specs.actions_Sites.{site_of}
+use Rattle.ctr_paged.specs.actions_Actions.{Begins, Commits, Aborts, site_after}
 use Rattle.ctr_paged.specs.Moving.{held_as}
-use Rattle.ctr_store.specs.RecordChecks.{record_damage}
-use Rattle.ctr_store.specs.Store.{View, Logs, MayLog, unmet_need, TakesRecord}
+use Rattle.ctr_walk.specs.store_RecordChecks.{record_damage}
+use Rattle.ctr_walk.specs.store_Store.{View, Logs, MayLog, unmet_need, TakesRecord}
 use Rattle.ctr_walk.specs.OneRecord.{HasRoomForOne, IsUnfit, WhyNotLogged, LogsOne, AnswersLog}
 use Rattle.ctr_walk.proofs.Joins.{fails_with}
 use Rattle.ctr_txn.specs.declared.txn.Asked.{Asked}

@@ -9,7 +9,7 @@ use Rattle.ctr_model.specs.declared.state.Transaction.{Transaction}
 use Rattle.ctr_model.specs.Maps.{without}
 use Rattle.ctr_versions.specs.Xids.{taken}
 use Rattle.ctr_meta.specs.Tables.{Tables}
-use Rattle.ctr_actions.specs.Sites.{Site}
+use Rattle.ctr_paged.specs.actions_Sites.{Site}
 use Rattle.ctr_paged.specs.Paged.{Run, xids_of}
 use Rattle.ctr_paged.specs.Moving.{held_as, begun_now, answered_one}
 use Rattle.ctr_paged.specs.Shown.{Scene, IsShown}

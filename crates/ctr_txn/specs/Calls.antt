@@ -6,10 +6,10 @@ use Rattle.ctr_disk.specs.declared.fault.StoreFault.{StoreFault}
 use Rattle.ctr_model.specs.declared.state.State.{State}
 use Rattle.ctr_model.specs.declared.state.Transaction.{Transaction}
 use Rattle.ctr_model.specs.State.{with_transaction, without_transaction}
-use Rattle.ctr_actions.specs.Sites.{site_of}
+use Rattle.ctr_paged.specs.actions_Sites.{site_of}
 use Rattle.ctr_paged.specs.Shown.{IsShown}
-use Rattle.ctr_base.specs.Base.{IsSoundImage}
-use Rattle.ctr_store.specs.Store.{View}
+use Rattle.ctr_walk.specs.base_Base.{IsSoundImage}
+use Rattle.ctr_walk.specs.store_Store.{View}
 use Rattle.ctr_walk.specs.OneRecord.{HasRoomForOne}
 use Rattle.ctr_txn.specs.Held.{TxnHeld, TxnsHeld, txn_of, scene_with, IsOneOfEight, IsReading, IsWriting, HasNumberRoom}
 use Rattle.ctr_txn.specs.Steps.{SetsTxn, DrawsOne, AsksOne, txn_drawn, txn_asked}

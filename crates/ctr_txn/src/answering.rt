@@ -6,9 +6,8 @@ ghost use Rattle.ctr_txn.specs.Rooms.{StaysRoom};
 
 use crate::txn::Asked;
 use crate::txns::Txns;
-use ctr_base::Origin;
 use ctr_disk::Disk;
-use ctr_store::Store;
+use ctr_walk::{Origin, Store};
 
 /// Is told which commits are answered, as the tape that has room for an entry of each.
 pub trait Answering {

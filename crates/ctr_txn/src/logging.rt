@@ -6,24 +6,21 @@ ghost use Rattle.ctr_model.specs.State.{transaction_of, with_transaction, withou
 ghost use Rattle.ctr_rec.specs.declared.record.Record.TheVariants.{Begin, Commit, Abort};
 ghost use Rattle.ctr_versions.specs.Laws.{IsGranted};
 ghost use Rattle.ctr_versions.specs.Steps.{AreUntouched};
-ghost use Rattle.ctr_record_laws.specs.Owed.{OwedByCommit, OwedByAbort};
-ghost use Rattle.ctr_actions.specs.Sites.{site_of};
-ghost use Rattle.ctr_actions.specs.Actions.{Begins, Commits, Aborts, site_after};
-ghost use Rattle.ctr_base.specs.Base.{WhereSound};
+ghost use Rattle.ctr_paged.specs.record_laws_Owed.{OwedByCommit, OwedByAbort};
+ghost use Rattle.ctr_paged.specs.actions_Sites.{site_of};
+ghost use Rattle.ctr_paged.specs.actions_Actions.{Begins, Commits, Aborts, site_after};
+ghost use Rattle.ctr_walk.specs.base_Base.{WhereSound};
 ghost use Rattle.ctr_walk.specs.OneRecord.{LogsOne};
 ghost use Rattle.ctr_txn.specs.Held.{TxnHeld, txn_of, number_drawn};
 ghost use Rattle.ctr_txn.specs.Rooms.{HasItemRoom};
 ghost use Rattle.ctr_txn.specs.Calls.{MayDraw, MayEnd, IsOverStore, DrawsFor, AsksFor, EndsFor, Shows, after_asking};
 
 use crate::txns::Txns;
-use ctr_actions::a_logged_record_is_its_action;
-use ctr_base::Origin;
 use ctr_disk::{Disk, StoreFault};
-use ctr_paged::an_action_is_shown;
+use ctr_paged::{a_logged_record_is_its_action, an_action_is_shown};
 use ctr_rec::Record;
-use ctr_store::Store;
 use ctr_types::Xid;
-use ctr_walk::log_record;
+use ctr_walk::{Origin, Store, log_record};
 
 impl Txns {
     /// A session draws its number, at its first lock: one record. It isn't hardened yet. It takes no memory.

@@ -5,7 +5,7 @@ ghost use Rattle.std.specs.FinMap.Entries.{find};
 ghost use Rattle.ctr_model.specs.declared.state.State.{State};
 ghost use Rattle.ctr_model.specs.declared.state.Transaction.{Transaction};
 ghost use Rattle.ctr_meta.specs.Kept.{RoomLeft};
-ghost use Rattle.ctr_actions.specs.Sites.{Site};
+ghost use Rattle.ctr_paged.specs.actions_Sites.{Site};
 ghost use Rattle.ctr_paged.specs.Shown.{IsShown};
 ghost use Rattle.ctr_txn.specs.Held.{TxnHeld, txn_of, scene_with, IsOneOfEight, HasNumberRoom};
 ghost use Rattle.ctr_txn.specs.Steps.{SetsTxn, KeepsNumbers, AnswersNext, txn_room};
@@ -15,11 +15,10 @@ ghost use Rattle.ctr_txn.specs.Calls.{answered_state};
 use crate::laws::the_run_is_of_the_sessions;
 use crate::txn::Asked;
 use crate::txns::{SESSIONS, Txns};
-use ctr_base::Origin;
 use ctr_disk::Disk;
 use ctr_paged::a_turn_without_a_record_is_shown;
-use ctr_store::Store;
 use ctr_types::OutOfMemory;
+use ctr_walk::{Origin, Store};
 
 impl Txns {
     /// Takes all the room that a session's Write, its commit and its rollback may want behind a Lock, beside that of all others and the

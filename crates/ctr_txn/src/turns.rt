@@ -5,7 +5,7 @@ ghost use Rattle.std.specs.FinMap.Entries.{find};
 ghost use Rattle.ctr_model.specs.declared.state.State.{State};
 ghost use Rattle.ctr_model.specs.declared.state.Transaction.{Transaction};
 ghost use Rattle.ctr_model.specs.State.{begun, with_transaction, without_transaction};
-ghost use Rattle.ctr_actions.specs.Sites.{Site};
+ghost use Rattle.ctr_paged.specs.actions_Sites.{Site};
 ghost use Rattle.ctr_paged.specs.Shown.{IsShown};
 ghost use Rattle.ctr_txn.specs.Held.{TxnHeld, txn_of, scene_with, IsOneOfEight, IsReading};
 ghost use Rattle.ctr_txn.specs.Steps.{SetsTxn, txn_begun, txn_undoing};

@@ -7,7 +7,7 @@ use Rattle.std.specs.Prelude.{◌==◌, ⊤}
 use Rattle.std.specs.List.{flat_map, AllByRecursion}
 use Rattle.std.specs.Option.{option_map}
 use Rattle.ctr_types.specs.declared.value.Column.{Column}
-use Rattle.ctr_versions.proofs.Keys.{known}
+use Rattle.ctr_revert.proofs.versions_Keys.{known}
 use Rattle.ctr_bytes.specs.Following.{◌>>=◌}
 use Rattle.ctr_page.specs.declared.rows.Place.{Place}
 use Rattle.ctr_page.specs.declared.rows.RowSlot.{RowSlot}
@@ -16,16 +16,16 @@ use Rattle.ctr_page.specs.Places.{kept_size, room_for}
 use Rattle.ctr_page.specs.Reading.{slot_at}
 use Rattle.ctr_page.specs.Columns.{kinds_width}
 use Rattle.ctr_meta.specs.Tables.{Tables}
-use Rattle.ctr_area.specs.Areas.{Slot, Older, free_slot, Area}
-use Rattle.ctr_area.specs.Chains.{pages_bound, older_bound, pages_from, places_on, slot_places, older_places, places_along, Leads}
-use Rattle.ctr_area.specs.Checked.{kinds_at, ArePassed}
-use Rattle.ctr_area.specs.Reading.{version_said, header_on, columns_on, width_on, area_of}
-use Rattle.ctr_area.specs.Sound.{IsAmong, IsOfVersions, IsKeptFor, IsSoundArea}
-use Rattle.ctr_area.proofs.Buckets.{each_of}
-use Rattle.ctr_record_laws.proofs.Along.{goes_on, all_along}
-use Rattle.ctr_record_laws.proofs.Bounds.{pages_bounded}
-use Rattle.ctr_record_laws.proofs.Owning.{all_of}
-use Rattle.ctr_record_laws.proofs.Room.{apart_fit, along_apart, bound_suc}
+use Rattle.ctr_heap.specs.area_Areas.{Slot, Older, free_slot, Area}
+use Rattle.ctr_heap.specs.area_Chains.{pages_bound, older_bound, pages_from, places_on, slot_places, older_places, places_along, Leads}
+use Rattle.ctr_heap.specs.area_Checked.{kinds_at, ArePassed}
+use Rattle.ctr_heap.specs.area_Reading.{version_said, header_on, columns_on, width_on, area_of}
+use Rattle.ctr_heap.specs.area_Sound.{IsAmong, IsOfVersions, IsKeptFor, IsSoundArea}
+use Rattle.ctr_heap.proofs.area_Buckets.{each_of}
+use Rattle.ctr_heap.proofs.record_laws_Along.{goes_on, all_along}
+use Rattle.ctr_heap.proofs.record_laws_Bounds.{pages_bounded}
+use Rattle.ctr_heap.proofs.record_laws_Owning.{all_of}
+use Rattle.ctr_heap.proofs.record_laws_Room.{apart_fit, along_apart, bound_suc}
 use Rattle.ctr_chain.specs.ctr_pvs.Table.{told_of}
 use Rattle.ctr_chain.specs.ctr_pvs.Reading.{kept_at_check}
 use Rattle.ctr_chain.specs.Seeking.{EntriesOf, most_entries, sought_along, xid_if_any, sought_in, entries_on, sought_at, xids_found}

@@ -6,7 +6,7 @@ use Rattle.ctr_page.specs.declared.table.TheConstants.{ENTRY_SIZE}
 use Rattle.ctr_page.specs.declared.walk.BadChain.TheVariants.{OnPage, TooLong}
 use Rattle.ctr_page.specs.Damage.{entry_check}
 use Rattle.ctr_page.specs.Searching.{EndsSearch}
-use Rattle.ctr_area.specs.Checked.{Passes, ArePassed}
+use Rattle.ctr_heap.specs.area_Checked.{Passes, ArePassed}
 use Rattle.ctr_heap.specs.ctr_walk.Damage.{EndsOnPage}
 use Rattle.ctr_catalog.specs.Finding.{checks_at, EndsEntries, EndsEntry}
 use Rattle.ctr_catalog.specs.Free.{EndsFreeEntry, EndsCatalog}

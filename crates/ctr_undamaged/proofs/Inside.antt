@@ -4,18 +4,18 @@ use Rattle.std.proofs.lemmas.Bool.{cases_lt}
 use Rattle.std.specs.List.{flat_map}
 use Rattle.std.specs.Prelude.{◌==◌}
 use Rattle.ctr_meta.specs.Tables.{Tables}
-use Rattle.ctr_area.specs.Areas.{Firsts, Area}
-use Rattle.ctr_area.specs.Chains.{pages_bound, pages_from, table_pages}
-use Rattle.ctr_area.specs.Images.{numbers, entry_numbers}
-use Rattle.ctr_area.specs.Sound.{IsAmong, how_many, page_of_item, xids_in, owned_pages, IsSoundArea}
-use Rattle.ctr_area.proofs.Buckets.{each_of}
-use Rattle.ctr_record_laws.specs.Bounds.{IsInBounds}
-use Rattle.ctr_record_laws.proofs.Ends.{one_among, one_count}
-use Rattle.ctr_record_laws.proofs.Few.{counts_apart, number_among, length-numbers, flat_count, entry_among}
-use Rattle.ctr_record_laws.proofs.Firsts.{counted_among}
-use Rattle.ctr_record_laws.proofs.Members.{among_front, among_rest, count_append, count_among}
-use Rattle.ctr_record_laws.proofs.Owned.{entry_inside, in_all, owned_once}
-use Rattle.ctr_record_laws.proofs.Room.{apart_fit}
+use Rattle.ctr_heap.specs.area_Areas.{Firsts, Area}
+use Rattle.ctr_heap.specs.area_Chains.{pages_bound, pages_from, table_pages}
+use Rattle.ctr_heap.specs.area_Images.{numbers, entry_numbers}
+use Rattle.ctr_heap.specs.area_Sound.{IsAmong, how_many, page_of_item, xids_in, owned_pages, IsSoundArea}
+use Rattle.ctr_heap.proofs.area_Buckets.{each_of}
+use Rattle.ctr_chain.specs.record_laws_Bounds.{IsInBounds}
+use Rattle.ctr_heap.proofs.record_laws_Ends.{one_among, one_count}
+use Rattle.ctr_heap.proofs.record_laws_Few.{counts_apart, number_among, length-numbers, flat_count, entry_among}
+use Rattle.ctr_heap.proofs.record_laws_Firsts.{counted_among}
+use Rattle.ctr_heap.proofs.record_laws_Members.{among_front, among_rest, count_append, count_among}
+use Rattle.ctr_heap.proofs.record_laws_Owned.{entry_inside, in_all, owned_once}
+use Rattle.ctr_heap.proofs.record_laws_Room.{apart_fit}
 use Rattle.ctr_heap.proofs.ctr_walk.Telling.{none_from}
 
 module _ (counted : ℕ) (tables : Tables) (area : Area) (bounds : IsInBounds area) (sound : IsSoundArea counted tables area) where

@@ -4,17 +4,17 @@ use Rattle.std.proofs.lemmas.Bool.{false≢true, eq-eqb}
 use Rattle.std.specs.Prelude.{◌==◌}
 use Rattle.std.specs.Option.{option_map}
 use Rattle.ctr_types.specs.declared.value.Column.{Column}
-use Rattle.ctr_versions.proofs.Keys.{known}
+use Rattle.ctr_revert.proofs.versions_Keys.{known}
 use Rattle.ctr_page.specs.declared.rows.Place.{Place}
 use Rattle.ctr_page.specs.declared.rows.Version.{Version}
 use Rattle.ctr_page.specs.declared.rows.RowSlot.{RowSlot}
 use Rattle.ctr_meta.specs.Tables.{Tables}
-use Rattle.ctr_area.specs.Areas.{Slot, free_slot, Area}
-use Rattle.ctr_area.specs.Chains.{older_bound, Leads}
-use Rattle.ctr_area.specs.Checked.{ArePassed}
-use Rattle.ctr_area.specs.Reading.{version_said, header_on, columns_on, area_of}
-use Rattle.ctr_area.specs.Sound.{IsUsedSlot, IsKeptFor, IsSoundArea}
-use Rattle.ctr_record_laws.proofs.Room.{bound_suc}
+use Rattle.ctr_heap.specs.area_Areas.{Slot, free_slot, Area}
+use Rattle.ctr_heap.specs.area_Chains.{older_bound, Leads}
+use Rattle.ctr_heap.specs.area_Checked.{ArePassed}
+use Rattle.ctr_heap.specs.area_Reading.{version_said, header_on, columns_on, area_of}
+use Rattle.ctr_heap.specs.area_Sound.{IsUsedSlot, IsKeptFor, IsSoundArea}
+use Rattle.ctr_heap.proofs.record_laws_Room.{bound_suc}
 use Rattle.ctr_chain.specs.ctr_pvs.Table.{told_of, owner_of}
 use Rattle.ctr_chain.specs.ctr_pvs.Reading.{kept_at_check, row_check_at}
 use Rattle.ctr_revert.specs.Reverting.{behind_check, row_slot_at, revert_check}

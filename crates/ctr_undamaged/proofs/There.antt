@@ -18,17 +18,17 @@ use Rattle.ctr_page.specs.Reading.{piece}
 use Rattle.ctr_page.specs.Columns.{entry_in, entry_at, kinds_width, slot_start, kept_start}
 use Rattle.ctr_page.specs.Damage.{header_check, slot_check, kept_check, entry_check}
 use Rattle.ctr_meta.specs.Tables.{Tables}
-use Rattle.ctr_area.specs.Areas.{Firsts, Area}
-use Rattle.ctr_area.specs.Chains.{pages_bound, pages_from, places_on, places_from, slot_places, older_places}
-use Rattle.ctr_area.specs.Checked.{kinds_at, ArePassed}
-use Rattle.ctr_area.specs.Reading.{title_of, header_on, area_of}
-use Rattle.ctr_area.specs.Sound.{IsAmong, IsOfRows, IsOfVersions, IsSoundArea}
-use Rattle.ctr_area.proofs.Buckets.{each_of, on_chain, nothing_from_0}
-use Rattle.ctr_record_laws.specs.Bounds.{IsInBounds}
-use Rattle.ctr_record_laws.proofs.Bounds.{pages_bounded}
-use Rattle.ctr_record_laws.proofs.Ends.{bucket_chain}
-use Rattle.ctr_record_laws.proofs.Members.{among_flat}
-use Rattle.ctr_record_laws.proofs.Owned.{entry_inside, slot_inside}
+use Rattle.ctr_heap.specs.area_Areas.{Firsts, Area}
+use Rattle.ctr_heap.specs.area_Chains.{pages_bound, pages_from, places_on, places_from, slot_places, older_places}
+use Rattle.ctr_heap.specs.area_Checked.{kinds_at, ArePassed}
+use Rattle.ctr_heap.specs.area_Reading.{title_of, header_on, area_of}
+use Rattle.ctr_heap.specs.area_Sound.{IsAmong, IsOfRows, IsOfVersions, IsSoundArea}
+use Rattle.ctr_heap.proofs.area_Buckets.{each_of, on_chain, nothing_from_0}
+use Rattle.ctr_chain.specs.record_laws_Bounds.{IsInBounds}
+use Rattle.ctr_heap.proofs.record_laws_Bounds.{pages_bounded}
+use Rattle.ctr_heap.proofs.record_laws_Ends.{bucket_chain}
+use Rattle.ctr_heap.proofs.record_laws_Members.{among_flat}
+use Rattle.ctr_heap.proofs.record_laws_Owned.{entry_inside, slot_inside}
 use Rattle.ctr_heap.proofs.ctr_passed.Pagewise.{PassedIn, page_by_page, index_of}
 use Rattle.ctr_heap.proofs.ctr_walk.Telling.{none_from}
 use Rattle.ctr_chain.specs.ctr_pvs.Table.{there_check, owner_check, catalog_check, told_of, owner_of, table_check}

@@ -10,16 +10,16 @@ use Rattle.ctr_page.specs.Damage.{header_check, entry_check}
 use Rattle.ctr_page.specs.Walking.{most_in_chain}
 use Rattle.ctr_page.proofs.Holding.{kinds_wide}
 use Rattle.ctr_meta.specs.Tables.{Tables}
-use Rattle.ctr_area.specs.Areas.{Area}
-use Rattle.ctr_area.specs.Chains.{pages_bound, pages_from}
-use Rattle.ctr_area.specs.Checked.{Passes, kinds_at, ArePassed}
-use Rattle.ctr_area.specs.Reading.{entry_bytes, header_on, columns_on, width_on, size_of_kind, area_of}
-use Rattle.ctr_area.specs.Sound.{IsAmong, IsOfRows, IsOfVersions, IsSoundArea}
-use Rattle.ctr_area.proofs.Buckets.{each_of}
-use Rattle.ctr_record_laws.specs.Bounds.{IsInBounds}
-use Rattle.ctr_record_laws.proofs.Bounds.{pages_bounded}
-use Rattle.ctr_record_laws.proofs.Ends.{steps, page_goes_on, bucket_chain}
-use Rattle.ctr_record_laws.proofs.Owning.{all_of}
+use Rattle.ctr_heap.specs.area_Areas.{Area}
+use Rattle.ctr_heap.specs.area_Chains.{pages_bound, pages_from}
+use Rattle.ctr_heap.specs.area_Checked.{Passes, kinds_at, ArePassed}
+use Rattle.ctr_heap.specs.area_Reading.{entry_bytes, header_on, columns_on, width_on, size_of_kind, area_of}
+use Rattle.ctr_heap.specs.area_Sound.{IsAmong, IsOfRows, IsOfVersions, IsSoundArea}
+use Rattle.ctr_heap.proofs.area_Buckets.{each_of}
+use Rattle.ctr_chain.specs.record_laws_Bounds.{IsInBounds}
+use Rattle.ctr_heap.proofs.record_laws_Bounds.{pages_bounded}
+use Rattle.ctr_heap.proofs.record_laws_Ends.{steps, page_goes_on, bucket_chain}
+use Rattle.ctr_heap.proofs.record_laws_Owning.{all_of}
 use Rattle.ctr_heap.proofs.ctr_passed.Pagewise.{PassedIn, page_by_page}
 use Rattle.ctr_heap.specs.ctr_walk.Along.{ChainSought, EndsPage, EndsAlong}
 use Rattle.ctr_heap.specs.ctr_walk.Tables.{chain_sought}

@@ -1,8 +1,8 @@
 // The searches of the catalog. A call does nothing: what it ensures is the law.
 ghost use Rattle.std.specs.Prelude.{◌<◌, ℕ, Bool, Option};
-ghost use Rattle.ctr_redo.specs.States.{State};
-ghost use Rattle.ctr_record_effects.specs.States.{pages_in};
-ghost use Rattle.ctr_record_effects.specs.Standing.{IsDatabaseState};
+ghost use Rattle.ctr_heap.specs.redo_States.{State};
+ghost use Rattle.ctr_heap.specs.record_effects_States.{pages_in};
+ghost use Rattle.ctr_revert.specs.record_effects_Standing.{IsDatabaseState};
 ghost use Rattle.ctr_catalog.specs.Finding.{checks_at, EndsEntries, EndsEntry};
 ghost use Rattle.ctr_catalog.specs.Free.{EndsCatalog};
 ghost use Rattle.ctr_undamaged.specs.Undamaged.{MeetsNoDamage};

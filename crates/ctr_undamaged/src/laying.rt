@@ -1,13 +1,13 @@
 // What is laid over a place of a table: it has its place there, and its record is laid as its action.
 ghost use Rattle.std.specs.Prelude.{◌≡◌, ℕ};
-ghost use Rattle.ctr_redo.specs.States.{State};
+ghost use Rattle.ctr_heap.specs.redo_States.{State};
 ghost use Rattle.ctr_page.specs.declared.rows.Place.{Place};
 ghost use Rattle.ctr_page.specs.declared.rows.RowSlot.{RowSlot};
 ghost use Rattle.ctr_page.specs.declared.rows.VersionEntry.{VersionEntry};
-ghost use Rattle.ctr_area.specs.Sound.{IsAmong};
-ghost use Rattle.ctr_area.specs.Chains.{slot_places, older_places};
-ghost use Rattle.ctr_record_effects.specs.States.{pages_in, area_in, IsWholePage};
-ghost use Rattle.ctr_record_effects.specs.Standing.{IsDatabaseState};
+ghost use Rattle.ctr_heap.specs.area_Sound.{IsAmong};
+ghost use Rattle.ctr_heap.specs.area_Chains.{slot_places, older_places};
+ghost use Rattle.ctr_heap.specs.record_effects_States.{pages_in, area_in, IsWholePage};
+ghost use Rattle.ctr_revert.specs.record_effects_Standing.{IsDatabaseState};
 ghost use Rattle.ctr_heap.specs.ctr_passed.Laid.{width_in};
 ghost use Rattle.ctr_heap.specs.ctr_passed.Logged.{IsSlotOf, IsOlderOf, PutsSlot, PutsOlder};
 ghost use Rattle.ctr_heap.specs.Writing.{slot_width, row_record, HasPlaceFor};

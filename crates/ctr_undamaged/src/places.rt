@@ -1,14 +1,14 @@
 // What a place of a table is on its page, and an entry on which chains may begin.
 ghost use Rattle.std.specs.Prelude.{◌≡◌, ◌≢◌, ◌<◌, ◌≤◌, ◌+◌, ◌/◌, ℕ, length};
-ghost use Rattle.ctr_redo.specs.States.{State};
+ghost use Rattle.ctr_heap.specs.redo_States.{State};
 ghost use Rattle.ctr_page.specs.declared.rows.Place.{Place};
 ghost use Rattle.ctr_page.specs.Places.{room_for};
-ghost use Rattle.ctr_area.specs.Sound.{IsAmong};
-ghost use Rattle.ctr_area.specs.Chains.{slot_places, older_places};
-ghost use Rattle.ctr_area.specs.Changes.{IsPlaceOf};
-ghost use Rattle.ctr_area.specs.Reading.{columns_on, width_on};
-ghost use Rattle.ctr_record_effects.specs.States.{pages_in, area_in, IsWholePage};
-ghost use Rattle.ctr_record_effects.specs.Standing.{IsDatabaseState};
+ghost use Rattle.ctr_heap.specs.area_Sound.{IsAmong};
+ghost use Rattle.ctr_heap.specs.area_Chains.{slot_places, older_places};
+ghost use Rattle.ctr_heap.specs.area_Changes.{IsPlaceOf};
+ghost use Rattle.ctr_heap.specs.area_Reading.{columns_on, width_on};
+ghost use Rattle.ctr_heap.specs.record_effects_States.{pages_in, area_in, IsWholePage};
+ghost use Rattle.ctr_revert.specs.record_effects_Standing.{IsDatabaseState};
 ghost use Rattle.ctr_heap.specs.Writing.{IsOfTable};
 ghost use Rattle.ctr_heap.specs.ctr_passed.Laid.{width_in, slot_size_in, older_size_in};
 

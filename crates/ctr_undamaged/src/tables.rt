@@ -1,12 +1,12 @@
 // The searches along the chains of a table. A call does nothing: what it ensures is the law.
 ghost use Rattle.std.specs.Prelude.{◌≡◌, ◌<◌, ℕ, ⊤, Some};
 ghost use Rattle.ctr_page.specs.declared.rows.Place.{Place};
-ghost use Rattle.ctr_redo.specs.States.{State};
-ghost use Rattle.ctr_area.specs.Areas.{Area};
-ghost use Rattle.ctr_area.specs.Chains.{slot_places, older_places};
-ghost use Rattle.ctr_area.specs.Sound.{IsAmong};
-ghost use Rattle.ctr_record_effects.specs.States.{pages_in, area_in};
-ghost use Rattle.ctr_record_effects.specs.Standing.{IsDatabaseState};
+ghost use Rattle.ctr_heap.specs.redo_States.{State};
+ghost use Rattle.ctr_heap.specs.area_Areas.{Area};
+ghost use Rattle.ctr_heap.specs.area_Chains.{slot_places, older_places};
+ghost use Rattle.ctr_heap.specs.area_Sound.{IsAmong};
+ghost use Rattle.ctr_heap.specs.record_effects_States.{pages_in, area_in};
+ghost use Rattle.ctr_revert.specs.record_effects_Standing.{IsDatabaseState};
 ghost use Rattle.ctr_heap.specs.declared.slots.SlotSought.{SlotSought};
 ghost use Rattle.ctr_heap.specs.Finding.{EndsBucket, FindsFree};
 ghost use Rattle.ctr_chain.specs.ctr_pvs.Along.{EndsVersions};

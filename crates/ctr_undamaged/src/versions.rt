@@ -1,11 +1,11 @@
 // The searches through the versions of a row. A call does nothing: what it ensures is the law.
 ghost use Rattle.std.specs.Prelude.{◌≡◌, ℕ, Bool, ⊤};
 ghost use Rattle.ctr_page.specs.declared.rows.Place.{Place};
-ghost use Rattle.ctr_redo.specs.States.{State};
-ghost use Rattle.ctr_area.specs.Chains.{slot_places};
-ghost use Rattle.ctr_area.specs.Sound.{IsAmong, IsUsedSlot};
-ghost use Rattle.ctr_record_effects.specs.States.{pages_in, area_in};
-ghost use Rattle.ctr_record_effects.specs.Standing.{IsDatabaseState};
+ghost use Rattle.ctr_heap.specs.redo_States.{State};
+ghost use Rattle.ctr_heap.specs.area_Chains.{slot_places};
+ghost use Rattle.ctr_heap.specs.area_Sound.{IsAmong, IsUsedSlot};
+ghost use Rattle.ctr_heap.specs.record_effects_States.{pages_in, area_in};
+ghost use Rattle.ctr_revert.specs.record_effects_Standing.{IsDatabaseState};
 ghost use Rattle.ctr_chain.specs.Seeking.{sought_at, xids_found};
 ghost use Rattle.ctr_chain.specs.Visible.{EndsReading};
 ghost use Rattle.ctr_revert.specs.Reverting.{revert_check};

@@ -12,8 +12,8 @@ use Rattle.ctr_record_laws.specs.Owed.{IsLastItem}
 use Rattle.ctr_redo.specs.States.{State}
 use Rattle.ctr_actions.specs.Sites.{Site, site_of}
 use Rattle.ctr_actions.specs.Actions.{Owes, undoing}
-use Rattle.ctr_kept.specs.Undo.{Undo}
-use Rattle.ctr_kept.proofs.Undo.{item_is_last, orphan_owes}
+use Rattle.ctr_rollback.specs.kept_Undo.{Undo}
+use Rattle.ctr_rollback.proofs.kept_Undo.{item_is_last, orphan_owes}
 use Rattle.ctr_rollback.proofs.Records.{undo_next, undo_leaves_room}
 use Rattle.ctr_undo.specs.declared.list.UndoItem.{UndoItem}
 use Rattle.ctr_undo.specs.declared.list.UndoItem.TheVariants.{Slog, Orphan}

@@ -17,11 +17,11 @@ use Rattle.ctr_names.specs.Held.{HoldsNames, names_of_items}
 use Rattle.ctr_actions.specs.Sites.{Site, IsSoundSite}
 use Rattle.ctr_actions.specs.Actions.{undoing, site_after}
 use Rattle.ctr_actions.proofs.Items.{left_back}
-use Rattle.ctr_paged.specs.Moving.{IsItemOfName}
-use Rattle.ctr_kept.specs.Undo.{IsUndoLeft}
-use Rattle.ctr_kept.specs.Walk.{Mind}
-use Rattle.ctr_kept.proofs.Undo.{with_latest}
-use Rattle.ctr_kept.specs.Turns.{Start, KeepsRun}
+use Rattle.ctr_rollback.specs.paged_Moving.{IsItemOfName}
+use Rattle.ctr_rollback.specs.kept_Undo.{IsUndoLeft}
+use Rattle.ctr_rollback.specs.kept_Walk.{Mind}
+use Rattle.ctr_rollback.proofs.kept_Undo.{with_latest}
+use Rattle.ctr_rollback.specs.kept_Turns.{Start, KeepsRun}
 use Rattle.ctr_undo.specs.declared.list.UndoItem.{UndoItem}
 use Rattle.ctr_undo.specs.declared.list.UndoItem.TheVariants.{Slog, Orphan}
 use Rattle.ctr_undo.specs.Left.{UndoLeft, Goes}

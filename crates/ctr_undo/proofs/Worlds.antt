@@ -11,10 +11,10 @@ use Rattle.ctr_record_laws.proofs.Members.{among_rest}
 use Rattle.ctr_record_laws.specs.Bounds.{IsInBounds}
 use Rattle.ctr_actions.specs.Sites.{Site}
 use Rattle.ctr_actions.specs.Actions.{Frees, Reclaims, Uncreates, Undrops, Aborts, site_after}
-use Rattle.ctr_paged.specs.Moving.{IsItemOfName}
-use Rattle.ctr_kept.specs.Undo.{IsUndoLeft}
-use Rattle.ctr_kept.specs.Walk.{Mind}
-use Rattle.ctr_kept.specs.Turns.{Start, KeepsRun, state_now, undone_mind, release_entry}
+use Rattle.ctr_rollback.specs.paged_Moving.{IsItemOfName}
+use Rattle.ctr_rollback.specs.kept_Undo.{IsUndoLeft}
+use Rattle.ctr_rollback.specs.kept_Walk.{Mind}
+use Rattle.ctr_rollback.specs.kept_Turns.{Start, KeepsRun, state_now, undone_mind, release_entry}
 use Rattle.ctr_undo.specs.declared.list.UndoItem.{UndoItem}
 use Rattle.ctr_undo.specs.declared.list.UndoItem.TheVariants.{Slog, Orphan}
 use Rattle.ctr_undo.specs.Left.{UndoLeft, Goes}

@@ -5,9 +5,9 @@ use Rattle.ctr_versions.specs.Laws.{IsNoSessions}
 use Rattle.ctr_meta.specs.declared.items.Wanted.TheVariants.{Creation, Dropping}
 use Rattle.ctr_names.specs.Held.{names_of_items}
 use Rattle.ctr_actions.specs.Sites.{Site}
-use Rattle.ctr_paged.specs.Moving.{IsItemOfName}
-use Rattle.ctr_kept.specs.Walk.{Mind}
-use Rattle.ctr_kept.specs.Turns.{release_entry}
+use Rattle.ctr_rollback.specs.paged_Moving.{IsItemOfName}
+use Rattle.ctr_rollback.specs.kept_Walk.{Mind}
+use Rattle.ctr_rollback.specs.kept_Turns.{release_entry}
 use Rattle.ctr_undo.specs.declared.list.UndoItem.{UndoItem}
 use Rattle.ctr_undo.specs.declared.list.UndoItem.TheVariants.{Slog, Orphan}
 use Rattle.ctr_undo.specs.Left.{UndoLeft}

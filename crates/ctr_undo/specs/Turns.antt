@@ -16,8 +16,8 @@ use Rattle.ctr_actions.specs.Actions.{Action, Aborts, Owes, undoing}
 use Rattle.ctr_store.specs.Store.{View}
 use Rattle.ctr_walk.specs.OneRecord.{LogsOne}
 use Rattle.ctr_rollback.specs.ctr_catalog.Writing.{undo_record}
-use Rattle.ctr_page_turns.specs.Acts.{ActsBy}
-use Rattle.ctr_kept.specs.Undo.{Undo, IsUndoLeft}
+use Rattle.ctr_rollback.specs.page_turns_Acts.{ActsBy}
+use Rattle.ctr_rollback.specs.kept_Undo.{Undo, IsUndoLeft}
 use Rattle.ctr_undo.specs.declared.list.UndoItem.{UndoItem}
 use Rattle.ctr_undo.specs.declared.list.UndoItem.TheVariants.{Slog, Orphan}
 use Rattle.ctr_undo.specs.declared.turning.UndoTurn.{UndoTurn}

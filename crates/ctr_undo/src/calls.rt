@@ -7,7 +7,7 @@ ghost use Rattle.ctr_actions.specs.Sites.{site_of};
 ghost use Rattle.ctr_actions.specs.Actions.{Aborts, Owes};
 ghost use Rattle.ctr_base.specs.Base.{WhereSound};
 ghost use Rattle.ctr_walk.specs.OneRecord.{HasRoomForOne, LogsOne};
-ghost use Rattle.ctr_page_turns.specs.Acts.{ActsBy};
+ghost use Rattle.ctr_rollback.specs.page_turns_Acts.{ActsBy};
 ghost use Rattle.ctr_undo.specs.Left.{NextFits};
 ghost use Rattle.ctr_undo.specs.Turns.{record_for, OwesNext, DoesNext, steps_for};
 
@@ -15,10 +15,11 @@ use crate::list::UndoItem;
 use ctr_actions::a_logged_record_is_its_action;
 use ctr_base::Origin;
 use ctr_disk::{Disk, StoreFault};
-use ctr_page_turns::{a_record_acts, a_record_is_refused_by_the_disk_alone};
-use ctr_passed::records_without_bytes_lie_as_their_actions;
 use ctr_rec::Record;
-use ctr_rollback::undo;
+use ctr_rollback::{
+    a_record_acts, a_record_is_refused_by_the_disk_alone,
+    records_without_bytes_lie_as_their_actions, undo,
+};
 use ctr_store::Store;
 use ctr_tally::Steps;
 use ctr_types::Xid;

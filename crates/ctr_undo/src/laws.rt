@@ -7,11 +7,11 @@ ghost use Rattle.ctr_record_effects.specs.States.{area_in};
 ghost use Rattle.ctr_actions.specs.Sites.{Site, site_of};
 ghost use Rattle.ctr_actions.specs.Actions.{Action};
 ghost use Rattle.ctr_store.specs.Store.{View};
-ghost use Rattle.ctr_kept.specs.Walk.{Mind};
-ghost use Rattle.ctr_kept.specs.Turns.{Start, KeepsRun, state_now};
-ghost use Rattle.ctr_stops.specs.World.{KeepsWorld};
-ghost use Rattle.ctr_page_turns.specs.Turns.{LogsAtRest};
-ghost use Rattle.ctr_page_turns.specs.Acts.{ActsBy};
+ghost use Rattle.ctr_rollback.specs.kept_Walk.{Mind};
+ghost use Rattle.ctr_rollback.specs.kept_Turns.{Start, KeepsRun, state_now};
+ghost use Rattle.ctr_rollback.specs.stops_World.{KeepsWorld};
+ghost use Rattle.ctr_rollback.specs.page_turns_Turns.{LogsAtRest};
+ghost use Rattle.ctr_rollback.specs.page_turns_Acts.{ActsBy};
 ghost use Rattle.ctr_undo.specs.declared.list.UndoItem.{UndoItem};
 ghost use Rattle.ctr_undo.specs.Left.{UndoLeft, left_in, IsOver, Goes};
 ghost use Rattle.ctr_undo.specs.Turns.{MayUndo, Undoes};
@@ -20,9 +20,11 @@ ghost use Rattle.ctr_undo.specs.Keeping.{list_of, undone_to, IsOfTable, name_und
 
 use ctr_actions::{an_undone_item_goes_alone, what_is_done_stays};
 use ctr_disk::Disk;
-use ctr_kept::{a_page_is_given_back, a_table_is_undone, an_orphan_is_ended};
 use ctr_names::recovery_keeps_the_names_of_items;
-use ctr_stops::{a_turn_of_a_world_is_kept, an_action_keeps_the_pages};
+use ctr_rollback::{
+    a_page_is_given_back, a_table_is_undone, a_turn_of_a_world_is_kept, an_action_keeps_the_pages,
+    an_orphan_is_ended,
+};
 
 /// Undo takes one turn for each item and each transaction that is left.
 pub fn undo_takes_a_turn_an_item()

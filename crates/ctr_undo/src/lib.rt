@@ -10,6 +10,9 @@ mod list;
 mod naming;
 mod turning;
 
+pub use ctr_rollback::{
+    a_call_that_ends_leaves_a_prefix, a_world_begins, recovery_is_in_no_transaction,
+};
 pub use laws::{
     a_name_is_released_with_its_last_item, a_turn_of_undo_is_kept, names_of_what_is_left_stay,
     undo_takes_a_turn_an_item,

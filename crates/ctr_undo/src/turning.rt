@@ -2,7 +2,7 @@
 ghost use Rattle.std.specs.Prelude.{◌≡◌, false, OnOk};
 ghost use Rattle.ctr_base.specs.Base.{WhereSound};
 ghost use Rattle.ctr_walk.specs.OneRecord.{HasRoomForOne};
-ghost use Rattle.ctr_page_turns.specs.Rooms.{AddsItems};
+ghost use Rattle.ctr_rollback.specs.page_turns_Rooms.{AddsItems};
 ghost use Rattle.ctr_undo.specs.Turns.{LogsNext, TakesNext, MayUndo, EndsTurn, TakesSteps};
 
 use crate::calls::undo_next;

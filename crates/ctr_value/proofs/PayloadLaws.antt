@@ -5,11 +5,11 @@ use Rattle.std.specs.Int.{w64, cast_unsigned, cast_signed}
 use Rattle.std.proofs.Math.Facts.{Fits-of_z}
 use Rattle.std.proofs.lemmas.Int.{to_z-of_z}
 use Rattle.std.proofs.lemmas.List.{take_at, drop_at, drop-drop, get_or-drop, length-replicate}
-use Rattle.ctr_types.specs.declared.value.Column.{Column}
-use Rattle.ctr_types.specs.declared.value.Kind.{Kind}
-use Rattle.ctr_types.specs.declared.value.Kind.TheVariants as kind
-use Rattle.ctr_types.specs.declared.value.Value.{Value}
-use Rattle.ctr_types.specs.declared.value.Value.TheVariants as value
+use Rattle.ctr_print.specs.types_Column.{Column}
+use Rattle.ctr_print.specs.types_Kind.{Kind}
+use Rattle.ctr_print.specs.types_Kind.TheVariants as kind
+use Rattle.ctr_print.specs.types_Value.{Value}
+use Rattle.ctr_print.specs.types_Value.TheVariants as value
 use Rattle.ctr_print.specs.ctr_model.Refusals.{key_of}
 use Rattle.ctr_bytes.specs.Fields.{spelled, field}
 use Rattle.ctr_value.specs.Payload.{IsOf, AreOf, IsRow, field_width, kinds_width, width, field_of, payload_of, IsField, IsPayload, IsRowOf, IsBadField, HasBadField}

@@ -5,11 +5,11 @@ use Rattle.std.specs.Int.{w64, cast_signed}
 use Rattle.std.proofs.Math.Facts.{sfits_to_z}
 use Rattle.std.proofs.lemmas.Int.{of_z-to_z}
 use Rattle.std.proofs.lemmas.List.{append-nil, drop-drop, drop_more, drop_all, length-take-le, take-append-drop, take_all, take_at, take_more, take_more_set, map-append}
-use Rattle.ctr_types.specs.declared.value.Column.{Column}
-use Rattle.ctr_types.specs.declared.value.Kind.{Kind}
-use Rattle.ctr_types.specs.declared.value.Kind.TheVariants as kind
-use Rattle.ctr_types.specs.declared.value.Value.{Value}
-use Rattle.ctr_types.specs.declared.value.Value.TheVariants as value
+use Rattle.ctr_print.specs.types_Column.{Column}
+use Rattle.ctr_print.specs.types_Kind.{Kind}
+use Rattle.ctr_print.specs.types_Kind.TheVariants as kind
+use Rattle.ctr_print.specs.types_Value.{Value}
+use Rattle.ctr_print.specs.types_Value.TheVariants as value
 use Rattle.ctr_value.specs.declared.payload.PayloadError.{PayloadError}
 use Rattle.ctr_value.specs.declared.payload.PayloadError.TheVariants as error
 use Rattle.ctr_value.specs.Payload.{IsOf, AreOf, IsKeyed, IsRow, field_width, width, field_of, payload_of, IsField, IsPayload, IsRowOf, HasField, HasBadField, IsNoPayload}

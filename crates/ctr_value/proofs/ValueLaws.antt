@@ -4,12 +4,12 @@ use Rattle.std.specs.Int.{w64, cast_unsigned, cast_signed}
 use Rattle.std.proofs.Math.Facts.{Fits-of_z}
 use Rattle.std.proofs.lemmas.Int.{to_z-of_z}
 use Rattle.std.proofs.lemmas.List.{append-nil, take_at, drop_at}
-use Rattle.ctr_types.specs.declared.value.Column.{Column}
-use Rattle.ctr_types.specs.declared.value.Kind.{Kind}
-use Rattle.ctr_types.specs.declared.value.Kind.TheVariants as kind
-use Rattle.ctr_types.specs.declared.value.Row.{Row}
-use Rattle.ctr_types.specs.declared.value.Value.{Value}
-use Rattle.ctr_types.specs.declared.value.Value.TheVariants as value
+use Rattle.ctr_print.specs.types_Column.{Column}
+use Rattle.ctr_print.specs.types_Kind.{Kind}
+use Rattle.ctr_print.specs.types_Kind.TheVariants as kind
+use Rattle.ctr_print.specs.types_Row.{Row}
+use Rattle.ctr_print.specs.types_Value.{Value}
+use Rattle.ctr_print.specs.types_Value.TheVariants as value
 use Rattle.ctr_bytes.specs.Fields.{field}
 use Rattle.ctr_bytes.proofs.FieldLaws.{field_at, got_byte}
 use Rattle.ctr_value.specs.Payload.{IsOf, AreOf, field_width, IsField, IsPayload, IsRowOf}

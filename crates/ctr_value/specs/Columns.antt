@@ -1,10 +1,10 @@
 -- The columns of a table: which there may be, and their bytes, in a record and on a page.
 use Rattle.std.specs.Prelude.{ℕ, zero, suc, ◌-◌, ◌<◌, ◌≤◌, List, [], ◌∷◌, ◌++◌, length}
 use Rattle.std.specs.List.{AllByRecursion}
-use Rattle.ctr_types.specs.Names.{IsName}
-use Rattle.ctr_types.specs.declared.value.Kind.{Kind}
-use Rattle.ctr_types.specs.declared.value.Kind.TheVariants.{Int, Chars}
-use Rattle.ctr_types.specs.declared.value.Column.{Column}
+use Rattle.ctr_print.specs.types_Names.{IsName}
+use Rattle.ctr_print.specs.types_Kind.{Kind}
+use Rattle.ctr_print.specs.types_Kind.TheVariants.{Int, Chars}
+use Rattle.ctr_print.specs.types_Column.{Column}
 
 -- ---- which there may be
 

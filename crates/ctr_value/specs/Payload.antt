@@ -1,11 +1,11 @@
 -- The payload of a row: its values after the key in order, each in the width of its column.
 use Rattle.std.specs.Prelude.{◌≡◌, ◌⊎◌, ℕ, ℤ, ◌+◌, ◌-◌, ◌<◌, ◌≤◌, List, [], ◌∷◌, ◌++◌, length, take, drop, slice_index, replicate, FitsSigned}
 use Rattle.std.specs.Int.{w64, cast_unsigned}
-use Rattle.ctr_types.specs.declared.value.Column.{Column}
-use Rattle.ctr_types.specs.declared.value.Kind.{Kind}
-use Rattle.ctr_types.specs.declared.value.Kind.TheVariants as kind
-use Rattle.ctr_types.specs.declared.value.Value.{Value}
-use Rattle.ctr_types.specs.declared.value.Value.TheVariants as value
+use Rattle.ctr_print.specs.types_Column.{Column}
+use Rattle.ctr_print.specs.types_Kind.{Kind}
+use Rattle.ctr_print.specs.types_Kind.TheVariants as kind
+use Rattle.ctr_print.specs.types_Value.{Value}
+use Rattle.ctr_print.specs.types_Value.TheVariants as value
 use Rattle.ctr_print.specs.ctr_model.Refusals.{key_of}
 use Rattle.ctr_bytes.specs.Fields.{spelled}
 use Rattle.ctr_value.specs.declared.payload.PayloadError.{PayloadError}

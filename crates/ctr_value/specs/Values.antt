@@ -1,12 +1,12 @@
 -- What a payload says, whatever bytes it has.
 use Rattle.std.specs.Prelude.{ℕ, ℤ, List, [], ◌∷◌, map, take, drop}
 use Rattle.std.specs.Int.{w64, cast_signed}
-use Rattle.ctr_types.specs.declared.value.Column.{Column}
-use Rattle.ctr_types.specs.declared.value.Kind.{Kind}
-use Rattle.ctr_types.specs.declared.value.Kind.TheVariants as kind
-use Rattle.ctr_types.specs.declared.value.Row.{Row}
-use Rattle.ctr_types.specs.declared.value.Value.{Value}
-use Rattle.ctr_types.specs.declared.value.Value.TheVariants as value
+use Rattle.ctr_print.specs.types_Column.{Column}
+use Rattle.ctr_print.specs.types_Kind.{Kind}
+use Rattle.ctr_print.specs.types_Kind.TheVariants as kind
+use Rattle.ctr_print.specs.types_Row.{Row}
+use Rattle.ctr_print.specs.types_Value.{Value}
+use Rattle.ctr_print.specs.types_Value.TheVariants as value
 use Rattle.ctr_bytes.specs.Fields.{field}
 use Rattle.ctr_value.specs.Payload.{field_width}
 

@@ -1,8 +1,8 @@
 // The payload of a row: its values after the key, each in the width of its column.
 ghost use Rattle.std.specs.Prelude.{◌≡◌, ◌≤◌, ◌<◌, ◌+◌, ◌-◌, ℕ, ℤ, replicate, List, ◌∷◌, ◌++◌, length, map, take, drop, IfOk, OnOk, IfErr, MatchResult};
-ghost use Rattle.ctr_types.specs.declared.value.Column.{Column};
-ghost use Rattle.ctr_types.specs.declared.value.Kind.TheVariants.{Chars};
-ghost use Rattle.ctr_types.specs.declared.value.Value.{Value};
+ghost use Rattle.ctr_print.specs.types_Column.{Column};
+ghost use Rattle.ctr_print.specs.types_Kind.TheVariants.{Chars};
+ghost use Rattle.ctr_print.specs.types_Value.{Value};
 ghost use Rattle.ctr_print.specs.ctr_model.Refusals.{key_of};
 ghost use Rattle.ctr_value.specs.Values.{row_values};
 ghost use Rattle.ctr_value.specs.declared.payload.PayloadError.TheVariants.{OutOfMemory};
@@ -10,7 +10,7 @@ ghost use Rattle.ctr_value.specs.Payload.{IsOf, AreOf, IsKeyed, IsRow, field_wid
 
 use crate::said::row_by_kinds;
 use ctr_bytes::put_i64;
-use ctr_types::{Column, Kind, OutOfMemory as NoMemory, Row, Schema, Value};
+use ctr_print::{Column, Kind, OutOfMemory as NoMemory, Row, Schema, Value};
 use std::alloc::Global;
 
 /// Why a payload isn't read.

@@ -6,7 +6,7 @@ ghost use Rattle.ctr_value.specs.Values.{value_said, values_of, row_by_kinds};
 
 use crate::payload::field_width;
 use ctr_bytes::{get_i64, get_u8};
-use ctr_types::{Kind, List, OutOfMemory, Row, Text, Value};
+use ctr_print::{Kind, List, OutOfMemory, Row, Text, Value};
 use std::alloc::Global;
 
 /// The text of a field, of as many bytes as its first one says.

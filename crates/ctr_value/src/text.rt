@@ -3,9 +3,7 @@ ghost use Rattle.std.specs.Prelude.{true, false, OnOk, OnErr};
 ghost use Rattle.ctr_print.specs.ctr_model.Texts.{row_text};
 ghost use Rattle.ctr_print.specs.Prints.{PutsOn};
 
-use ctr_io::{Failed, Sink};
-use ctr_print::{Printer, put_row};
-use ctr_types::Row;
+use ctr_print::{Failed, Printer, Row, Sink, put_row};
 
 /// Writes the text of a row, as the transcript has it. It takes no memory.
 pub fn write_row<K: Sink>(row: &Row, sink: &mut K) -> Result<(), Failed>

@@ -5,7 +5,7 @@ use Rattle.std.specs.List.{AllByRecursion}
 use Rattle.std.specs.Ordering.{nat_cmp}
 use Rattle.std.specs.FinMap.Entries.{find, is_sorted}
 use Rattle.std.proofs.lemmas.Bool.{true≢false, eq-eqb, cases_eq}
-use Rattle.ctr_types.specs.declared.value.Row.{Row}
+use Rattle.ctr_model.specs.types_Row.{Row}
 use Rattle.ctr_model.specs.declared.state.State.{State}
 use Rattle.ctr_model.specs.Database.{name_cmp, table_at}
 use Rattle.ctr_model.specs.Refusals.{row_of}

@@ -5,7 +5,7 @@ use Rattle.std.specs.List.{AllByRecursion}
 use Rattle.std.specs.Ordering.{int_cmp, int_eq}
 use Rattle.std.specs.Cmp.{signed_Decides}
 use Rattle.std.proofs.lemmas.Bool.{false≢true, eq-eqb, eqb-true, ne_eqb, and_parts, and_from, or_parts, or_from, ltb-true, lt-ltb}
-use Rattle.ctr_types.specs.declared.value.Row.{Row}
+use Rattle.ctr_model.specs.types_Row.{Row}
 use Rattle.ctr_model.specs.Database.{name_cmp}
 use Rattle.ctr_model.specs.State.{same_name, at_rest}
 use Rattle.ctr_versions.specs.Chains.{Numbers, AllCommitted, Behind}

@@ -9,8 +9,8 @@ use Rattle.std.specs.Cmp.Lexicographic.{nat_list_cmp_total, nat_list_eq_equiv, t
 use Rattle.std.proofs.lemmas.Bool.{false≢true}
 use Rattle.std.specs.FinMap.Entries.{put, find-put, find-where_key}
 use Rattle.std.proofs.lemmas.Map.Lookups.{exact_bytes, exact_signed}
-use Rattle.ctr_types.specs.declared.value.Row.{Row}
-use Rattle.ctr_types.specs.declared.value.Schema.{Schema}
+use Rattle.ctr_model.specs.types_Row.{Row}
+use Rattle.ctr_snap.specs.types_Schema.{Schema}
 use Rattle.ctr_model.specs.declared.database.Change.{Change}
 use Rattle.ctr_model.specs.declared.database.Change.TheVariants as change
 use Rattle.ctr_model.specs.declared.database.Table.{Table}

@@ -22,3 +22,4 @@ pub mod Loading
 pub mod Forgetting
 pub mod Heads
 pub mod Kept
+pub use Rattle.ctr_model.proofs.Sessions as model_Sessions

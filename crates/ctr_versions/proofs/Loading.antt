@@ -7,7 +7,7 @@ use Rattle.std.specs.List.{AllByRecursion}
 use Rattle.std.specs.Ordering.{int_cmp}
 use Rattle.std.specs.FinMap.Entries.{is_sorted}
 use Rattle.std.proofs.lemmas.Bool.{false≢true, le-ltb, ne_eqb}
-use Rattle.ctr_types.specs.declared.value.Row.{Row}
+use Rattle.ctr_model.specs.types_Row.{Row}
 use Rattle.ctr_model.specs.declared.database.Change.{Change}
 use Rattle.ctr_model.specs.Database.{Database, name_cmp, table_at, with_row, without_row, at_found, changed}
 use Rattle.ctr_model.specs.State.{same_name, at_rest}

@@ -8,7 +8,7 @@ use Rattle.std.specs.Cmp.{int_eq_equiv, signed_Decides}
 use Rattle.std.specs.Cmp.Lexicographic.{nat_list_eq_equiv}
 use Rattle.std.specs.FinMap.Entries.{is_sorted}
 use Rattle.std.proofs.lemmas.Bool.{false≢true, eq-eqb, eqb-true, and_parts, and_from}
-use Rattle.ctr_types.specs.declared.value.Row.{Row}
+use Rattle.ctr_model.specs.types_Row.{Row}
 use Rattle.ctr_model.specs.declared.database.Change.{Change}
 use Rattle.ctr_model.specs.declared.state.State.{State}
 use Rattle.ctr_model.specs.Database.{name_cmp, table_at}

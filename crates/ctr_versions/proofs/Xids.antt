@@ -4,7 +4,7 @@ use Rattle.std.specs.Prelude.{◌&&◌, ◌||◌, nat_le, nat_lt, is_some, unwra
 use Rattle.std.specs.List.{AllByRecursion}
 use Rattle.std.proofs.lemmas.Bool.{eqb-true, eq-eqb, ne_eqb, le-leb, lt-leb, lt-ltb, le-ltb, ltb-true, leb-true, false≢true, and_parts, and_from, cases_eq, cases_lt, or_parts, or_left, or_right, or_cases, or_from, false_from_ne_true}
 use Rattle.std.proofs.lemmas.Map.{update_here, update_apart}
-use Rattle.ctr_types.specs.declared.xid.Fate.TheVariants as fate
+use Rattle.ctr_snap.specs.types_Fate.TheVariants as fate
 use Rattle.ctr_versions.specs.Chains.{is_by, by}
 use Rattle.ctr_versions.specs.Xids.{fate_of, Xids, minus, place_from, has_committed, number_of, IsSnapshotOf, taken, drawn, asked, aborted, settled, forgotten, is_before, IsOnce, AreSound}
 use Rattle.ctr_snap.specs.Seeing.{is_committed, has, SnapshotTaken, sees, AreFrom, named}

@@ -2,7 +2,7 @@
 -- one that was rolled back may be forgotten once it has none.
 use Rattle.std.specs.Prelude.{◌≡◌, ℕ, ◌+◌, ◌-◌, ◌^◌, ◌<◌, ◌==◌, nat_lt, ℤ, Bool, true, false, List, [], ◌∷◌, length, Option, Some, None, is_some, if◌then◌else◌}
 use Rattle.std.specs.List.{list_any}
-use Rattle.ctr_types.specs.declared.value.Row.{Row}
+use Rattle.ctr_model.specs.types_Row.{Row}
 use Rattle.ctr_model.specs.State.{same_name}
 use Rattle.ctr_versions.specs.Chains.{Numbers, Behind}
 use Rattle.ctr_versions.specs.Versions.{Versions, names_at, rows_of, is_slot}

@@ -2,8 +2,8 @@
 use Rattle.std.specs.Prelude.{◌≡◌, ℕ, ℤ, ◌&&◌, List, [], ◌∷◌, map, Option, Some, None, if◌then◌else◌}
 use Rattle.std.specs.Option.{option_or, option_map}
 use Rattle.std.specs.Ordering.{int_eq}
-use Rattle.ctr_types.specs.declared.value.Row.{Row}
-use Rattle.ctr_types.specs.declared.value.Schema.{Schema}
+use Rattle.ctr_model.specs.types_Row.{Row}
+use Rattle.ctr_snap.specs.types_Schema.{Schema}
 use Rattle.ctr_model.specs.declared.database.Change.{Change}
 use Rattle.ctr_model.specs.declared.database.Change.TheVariants as change
 use Rattle.ctr_model.specs.declared.database.Table.{Table}

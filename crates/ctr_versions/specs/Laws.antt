@@ -5,10 +5,10 @@ use Rattle.std.specs.Prelude.{◌≡◌, ℕ, ◌+◌, ◌<◌, ◌≤◌, ℤ, 
 use Rattle.std.specs.List.{AllByRecursion, list_any}
 use Rattle.std.specs.Ordering.{nat_cmp}
 use Rattle.std.specs.FinMap.Entries.{find}
-use Rattle.ctr_types.specs.declared.value.Row.{Row}
-use Rattle.ctr_types.specs.declared.statement.Statement.{Statement}
-use Rattle.ctr_types.specs.declared.tape.Act.TheVariants as act
-use Rattle.ctr_types.specs.declared.tape.Reply.TheVariants as reply
+use Rattle.ctr_model.specs.types_Row.{Row}
+use Rattle.ctr_model.specs.types_Statement.{Statement}
+use Rattle.ctr_model.specs.types_Act_TheVariants as act
+use Rattle.ctr_model.specs.types_Reply_TheVariants as reply
 use Rattle.ctr_snap.specs.Seeing.{has, least, named}
 use Rattle.ctr_model.specs.declared.database.Change.{Change}
 use Rattle.ctr_model.specs.declared.state.State.{State}

@@ -11,3 +11,4 @@ pub mod Loading
 pub mod Heads
 pub mod Undoing
 pub use Rattle.ctr_model.specs as ctr_model
+pub use Rattle.ctr_model.specs.types_Row as types_Row

@@ -1,8 +1,8 @@
 -- The numbers of transactions, their fates, and the commit numbers that snapshots stand for.
 use Rattle.std.specs.Prelude.{◌≡◌, ℕ, ◌+◌, ◌≤◌, ◌<◌, ◌==◌, nat_lt, Bool, true, false, not, ◌&&◌, List, [], ◌∷◌, ◌++◌, drop, Option, Some, None, if◌then◌else◌}
 use Rattle.std.specs.List.{AllByRecursion, filter}
-use Rattle.ctr_types.specs.declared.xid.Fate.{Fate}
-use Rattle.ctr_types.specs.declared.xid.Fate.TheVariants as fate
+use Rattle.ctr_snap.specs.types_Fate.{Fate}
+use Rattle.ctr_snap.specs.types_Fate.TheVariants as fate
 use Rattle.ctr_snap.specs.Seeing.{SnapshotTaken, has, sees}
 use Rattle.ctr_versions.specs.Chains.{by}
 

@@ -21,9 +21,9 @@ use Rattle.ctr_versions.proofs.Engine.{session_alike}
 use Rattle.ctr_versions.proofs.Keys.{known}
 use Rattle.ctr_versions.proofs.Undoing.{newest_schemas, written_schemas}
 use Rattle.ctr_versions.proofs.Versions.{behind_schemas}
-use Rattle.ctr_legal.specs.Kept.{IsFirm}
-use Rattle.ctr_names.specs.Search.{IsEntryFound}
-use Rattle.ctr_actions.specs.Sites.{Site}
+use Rattle.ctr_paged.specs.legal_Kept.{IsFirm}
+use Rattle.ctr_paged.specs.ctr_names.Search.{IsEntryFound}
+use Rattle.ctr_paged.specs.actions_Sites.{Site}
 use Rattle.ctr_paged.specs.Shown.{Scene, IsShown}
 use Rattle.ctr_views.specs.Viewing.{Viewer, sees_by}
 use Rattle.ctr_views.proofs.Answered.{schema_unchanged}

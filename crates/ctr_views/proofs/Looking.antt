@@ -8,15 +8,15 @@ use Rattle.ctr_model.specs.State.{has_name}
 use Rattle.ctr_versions.specs.Chains.{changed_since}
 use Rattle.ctr_versions.specs.Engine.{SessionHeld, ShowsSession}
 use Rattle.ctr_versions.specs.Keys.{schema_writes}
-use Rattle.ctr_area.specs.Images.{is_committed_in, versions_in}
-use Rattle.ctr_area.specs.Sound.{IsSchemaItem}
-use Rattle.ctr_legal.specs.Kept.{IsFirm}
-use Rattle.ctr_sessions.proofs.Own.{last_none}
-use Rattle.ctr_record_laws.proofs.Latest.{live_some}
-use Rattle.ctr_names.specs.Held.{IsNameHeldBy}
-use Rattle.ctr_names.specs.Search.{IsOfTables, ShowsNames, Looker, IsLooking, IsEntryFound, finds}
-use Rattle.ctr_names.proofs.Fates.{found_same}
-use Rattle.ctr_actions.specs.Sites.{Site}
+use Rattle.ctr_paged.specs.area_Images.{is_committed_in, versions_in}
+use Rattle.ctr_paged.specs.area_Sound.{IsSchemaItem}
+use Rattle.ctr_paged.specs.legal_Kept.{IsFirm}
+use Rattle.ctr_paged.proofs.sessions_Own.{last_none}
+use Rattle.ctr_paged.proofs.record_laws_Latest.{live_some}
+use Rattle.ctr_paged.specs.ctr_names.Held.{IsNameHeldBy}
+use Rattle.ctr_paged.specs.ctr_names.Search.{IsOfTables, ShowsNames, Looker, IsLooking, IsEntryFound, finds}
+use Rattle.ctr_catalog.proofs.names_Fates.{found_same}
+use Rattle.ctr_paged.specs.actions_Sites.{Site}
 use Rattle.ctr_paged.specs.Paged.{xids_of}
 use Rattle.ctr_paged.specs.Shown.{Scene, IsShown}
 use Rattle.ctr_views.specs.Viewing.{Viewer, sees_by}

@@ -14,15 +14,15 @@ use Rattle.ctr_versions.proofs.Keys.{known}
 use Rattle.ctr_versions.proofs.Undoing.{newest_schemas}
 use Rattle.ctr_versions.proofs.Written.{same_itself}
 use Rattle.ctr_meta.specs.Seen.{xid_is_changed}
-use Rattle.ctr_area.specs.Areas.{Title}
-use Rattle.ctr_area.specs.Images.{Numbered, all_put_first, is_committed_in, is_live, is_named_so, made_by_entry, name_chain, name_versions, newest_first, put_first, versions_by_entry, versions_in}
-use Rattle.ctr_names.proofs.Chains.{AreAllBy, Version, by_kind, chain_listed, entries_in, newest_put}
-use Rattle.ctr_names.proofs.Entries.{all_named, all_sorted, name_of, numbered}
-use Rattle.ctr_names.proofs.Fates.{changed_same}
-use Rattle.ctr_names.proofs.Names.{names_here}
-use Rattle.ctr_names.proofs.Ranked.{told_entry}
-use Rattle.ctr_names.specs.Search.{is_changed_for}
-use Rattle.ctr_actions.specs.Sites.{Site}
+use Rattle.ctr_paged.specs.area_Areas.{Title}
+use Rattle.ctr_paged.specs.area_Images.{Numbered, all_put_first, is_committed_in, is_live, is_named_so, made_by_entry, name_chain, name_versions, newest_first, put_first, versions_by_entry, versions_in}
+use Rattle.ctr_paged.proofs.names_Chains.{AreAllBy, Version, by_kind, chain_listed, entries_in, newest_put}
+use Rattle.ctr_paged.proofs.names_Entries.{all_named, all_sorted, name_of, numbered}
+use Rattle.ctr_catalog.proofs.names_Fates.{changed_same}
+use Rattle.ctr_paged.proofs.names_Names.{names_here}
+use Rattle.ctr_paged.proofs.names_Ranked.{told_entry}
+use Rattle.ctr_paged.specs.ctr_names.Search.{is_changed_for}
+use Rattle.ctr_paged.specs.actions_Sites.{Site}
 use Rattle.ctr_catalog.specs.Finding.{change_made, change_since, changed_in}
 use Rattle.ctr_catalog.proofs.Searched.{changed_made}
 use Rattle.ctr_paged.specs.Paged.{xids_of}

@@ -15,12 +15,12 @@ use Rattle.ctr_versions.specs.Versions.{Made, Versions, names_at, rows_of, slots
 use Rattle.ctr_versions.specs.Xids.{Xids}
 use Rattle.ctr_versions.proofs.Listing.{is_sorted-shown}
 use Rattle.ctr_versions.proofs.Reading.{row_read, session_reads}
-use Rattle.ctr_area.specs.Images.{is_committed_in, made_by_entry, versions_in}
-use Rattle.ctr_legal.specs.Kept.{IsFirm}
-use Rattle.ctr_record_laws.proofs.Slots.{rows_sorted, slot_wasnt}
-use Rattle.ctr_names.specs.Search.{IsEntryFound}
-use Rattle.ctr_names.proofs.Search.{sought_shows}
-use Rattle.ctr_actions.specs.Sites.{Site}
+use Rattle.ctr_paged.specs.area_Images.{is_committed_in, made_by_entry, versions_in}
+use Rattle.ctr_paged.specs.legal_Kept.{IsFirm}
+use Rattle.ctr_paged.proofs.record_laws_Slots.{rows_sorted, slot_wasnt}
+use Rattle.ctr_paged.specs.ctr_names.Search.{IsEntryFound}
+use Rattle.ctr_paged.proofs.names_Search.{sought_shows}
+use Rattle.ctr_paged.specs.actions_Sites.{Site}
 use Rattle.ctr_paged.specs.Paged.{xids_of, engine_at}
 use Rattle.ctr_paged.specs.Shown.{Scene, IsShown}
 use Rattle.ctr_views.specs.Viewing.{Viewer, sees_by}

@@ -8,11 +8,11 @@ use Rattle.std.proofs.lemmas.Bool.{false≢true}
 use Rattle.std.proofs.lemmas.Map.Lookups.{exact_signed}
 use Rattle.ctr_types.specs.declared.value.Row.{Row}
 use Rattle.ctr_versions.proofs.Keys.{known}
-use Rattle.ctr_page.specs.declared.rows.Place.{Place}
-use Rattle.ctr_area.specs.Areas.{Area}
-use Rattle.ctr_area.specs.Chains.{slot_places}
-use Rattle.ctr_area.specs.Sound.{AreKeyed, IsAmong, IsUsedSlot}
-use Rattle.ctr_record_laws.proofs.Gathering.{matches, match_key, match_used, is_match}
+use Rattle.ctr_paged.specs.page_Place.{Place}
+use Rattle.ctr_paged.specs.area_Areas.{Area}
+use Rattle.ctr_paged.specs.area_Chains.{slot_places}
+use Rattle.ctr_paged.specs.area_Sound.{AreKeyed, IsAmong, IsUsedSlot}
+use Rattle.ctr_paged.proofs.record_laws_Gathering.{matches, match_key, match_used, is_match}
 use Rattle.ctr_chain.specs.Visible.{visible_row}
 use Rattle.ctr_views.specs.Scanning.{AreScanned, IsNoSlot, rows_scanned, with_seen}
 

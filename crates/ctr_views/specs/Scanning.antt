@@ -3,9 +3,9 @@ use Rattle.std.specs.Prelude.{◌≡◌, ℕ, ℤ, Bool, List, [], ◌∷◌, Op
 use Rattle.std.specs.Ordering.{int_cmp}
 use Rattle.std.specs.FinMap.Entries.{find, put, is_sorted}
 use Rattle.ctr_types.specs.declared.value.Row.{Row}
-use Rattle.ctr_page.specs.declared.rows.Place.{Place}
-use Rattle.ctr_area.specs.Areas.{Area}
-use Rattle.ctr_area.specs.Sound.{IsUsedSlot}
+use Rattle.ctr_paged.specs.page_Place.{Place}
+use Rattle.ctr_paged.specs.area_Areas.{Area}
+use Rattle.ctr_paged.specs.area_Sound.{IsUsedSlot}
 use Rattle.ctr_chain.specs.Visible.{visible_row}
 
 -- no used slot of a table has the key

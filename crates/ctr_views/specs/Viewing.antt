@@ -9,11 +9,11 @@ use Rattle.ctr_versions.specs.Chains.{above}
 use Rattle.ctr_versions.specs.Engine.{SessionHeld, IsCalm}
 use Rattle.ctr_versions.specs.Xids.{number_of}
 use Rattle.ctr_meta.specs.Seen.{xid_is_seen}
-use Rattle.ctr_page.specs.declared.rows.Place.{Place}
-use Rattle.ctr_area.specs.Chains.{chain_of}
-use Rattle.ctr_area.specs.Images.{is_committed_in}
-use Rattle.ctr_names.specs.Search.{IsNumberOf}
-use Rattle.ctr_actions.specs.Sites.{Site}
+use Rattle.ctr_paged.specs.page_Place.{Place}
+use Rattle.ctr_paged.specs.area_Chains.{chain_of}
+use Rattle.ctr_paged.specs.area_Images.{is_committed_in}
+use Rattle.ctr_paged.specs.ctr_names.Search.{IsNumberOf}
+use Rattle.ctr_paged.specs.actions_Sites.{Site}
 use Rattle.ctr_paged.specs.Paged.{xids_of}
 use Rattle.ctr_paged.specs.Shown.{Scene}
 use Rattle.ctr_catalog.specs.Finding.{entry_seen, EndsEntries}

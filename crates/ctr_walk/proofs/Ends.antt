@@ -1,17 +1,17 @@
 -- Where a search along a chain ends, a page at a time.
 use Rattle.std.proofs.Common.{◌≡◌, ◌≢◌, inl, inr, ℕ, zero, suc, List, Option, None, Some, Result, Ok, Err, refl, sym, ap, subst}
-use Rattle.ctr_rec.specs.declared.decoding.BadRecord.{BadRecord}
-use Rattle.ctr_page.specs.declared.walk.BadChain.{BadChain}
-use Rattle.ctr_page.specs.declared.walk.BadChain.TheVariants.{OnPage, TooLong}
-use Rattle.ctr_page.specs.declared.rows.Place.{Place}
-use Rattle.ctr_page.specs.Reading.{header_in}
-use Rattle.ctr_page.specs.Walking.{most_in_chain}
+use Rattle.ctr_store.specs.rec_BadRecord.{BadRecord}
+use Rattle.ctr_record_effects.specs.page_BadChain.{BadChain}
+use Rattle.ctr_record_effects.specs.page_BadChain.TheVariants.{OnPage, TooLong}
+use Rattle.ctr_record_effects.specs.page_Place.{Place}
+use Rattle.ctr_record_effects.specs.page_Reading.{header_in}
+use Rattle.ctr_record_effects.specs.page_Walking.{most_in_chain}
 use Rattle.std.specs.Prelude.{IfOk, IfSome}
 use Rattle.ctr_disk.specs.declared.fault.StoreFault.{StoreFault}
-use Rattle.ctr_page.specs.declared.checks.Chain.{Chain}
-use Rattle.ctr_page.specs.Damage.{chain_entry}
-use Rattle.ctr_area.specs.Reading.{area_of}
-use Rattle.ctr_area.specs.Checked.{kinds_at}
+use Rattle.ctr_record_effects.specs.page_Chain.{Chain}
+use Rattle.ctr_record_effects.specs.page_Damage.{chain_entry}
+use Rattle.ctr_record_effects.specs.area_Reading.{area_of}
+use Rattle.ctr_record_effects.specs.area_Checked.{kinds_at}
 use Rattle.ctr_walk.specs.Damage.{EndsTold}
 use Rattle.ctr_walk.specs.Tables.{EndsByKinds, chain_sought, first_of_chain, EndsChain}
 use Rattle.ctr_walk.specs.Along.{ChainSought, EndsPage, EndsAlong}

@@ -9,16 +9,16 @@ use Rattle.ctr_bytes.proofs.FieldLaws.{field-append, field-drop}
 use Rattle.ctr_types.specs.declared.value.Column.{Column}
 use Rattle.ctr_types.specs.declared.value.Kind.TheVariants.{Int, Chars}
 use Rattle.ctr_types.specs.declared.value.Kind.{Kind}
-use Rattle.ctr_value.specs.Columns.{KindFits, ColumnFits, ColumnsFit}
-use Rattle.ctr_value.specs.Payload.{IsKeyed}
-use Rattle.ctr_rec.specs.declared.decoding.BadRecord.{BadRecord}
-use Rattle.ctr_rec.specs.Damage.{at_most}
-use Rattle.ctr_page.specs.Reading.{piece}
-use Rattle.ctr_page.specs.Columns.{entry_at, name_in, column_kind_at, kind_said, columns_from, columns_in}
-use Rattle.ctr_page.specs.Damage.{from_1_check, firsts_check, column_check, columns_check, used_entry_check, entry_check}
-use Rattle.ctr_page.proofs.Passing.{from_1_holds}
-use Rattle.ctr_page.proofs.Holding.{most_ok}
-use Rattle.ctr_area.proofs.Bytes.{length-piece}
+use Rattle.ctr_record_effects.specs.value_Columns.{KindFits, ColumnFits, ColumnsFit}
+use Rattle.ctr_record_effects.specs.value_Payload.{IsKeyed}
+use Rattle.ctr_store.specs.rec_BadRecord.{BadRecord}
+use Rattle.ctr_store.specs.rec_Damage.{at_most}
+use Rattle.ctr_record_effects.specs.page_Reading.{piece}
+use Rattle.ctr_record_effects.specs.page_Columns.{entry_at, name_in, column_kind_at, kind_said, columns_from, columns_in}
+use Rattle.ctr_record_effects.specs.page_Damage.{from_1_check, firsts_check, column_check, columns_check, used_entry_check, entry_check}
+use Rattle.ctr_record_effects.proofs.page_Passing.{from_1_holds}
+use Rattle.ctr_record_effects.proofs.page_Holding.{most_ok}
+use Rattle.ctr_record_effects.proofs.area_Bytes.{length-piece}
 use Rattle.ctr_walk.specs.Columns.{AreNamed}
 
 pub both_ok : (r s : Result ⊤ BadRecord) → (r >>= λ _. s) ≡ Ok tt → (r ≡ Ok tt) × (s ≡ Ok tt)

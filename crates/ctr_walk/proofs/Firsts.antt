@@ -3,14 +3,14 @@ use Rattle.std.proofs.Common.{◌≡◌, ◌≢◌, ℕ, zero, suc, ◌+◌, ◌
 use Rattle.std.proofs.lemmas.Bool.{ne_eqb}
 use Rattle.ctr_bytes.specs.Fields.{field}
 use Rattle.ctr_bytes.proofs.FieldLaws.{field-append, field-drop}
-use Rattle.ctr_rec.proofs.Reading.{bind_ok}
-use Rattle.ctr_page.specs.Reading.{piece}
-use Rattle.ctr_page.specs.declared.checks.Chain.{Chain}
-use Rattle.ctr_page.specs.declared.checks.Chain.TheVariants.{Rows, Versions}
-use Rattle.ctr_page.specs.Columns.{entry_at}
-use Rattle.ctr_page.specs.Damage.{counted_check, firsts_check, used_entry_check, entry_check}
-use Rattle.ctr_page.proofs.Holding.{most_ok}
-use Rattle.ctr_area.proofs.Bytes.{length-piece}
+use Rattle.ctr_store.proofs.rec_Reading.{bind_ok}
+use Rattle.ctr_record_effects.specs.page_Reading.{piece}
+use Rattle.ctr_record_effects.specs.page_Chain.{Chain}
+use Rattle.ctr_record_effects.specs.page_Chain.TheVariants.{Rows, Versions}
+use Rattle.ctr_record_effects.specs.page_Columns.{entry_at}
+use Rattle.ctr_record_effects.specs.page_Damage.{counted_check, firsts_check, used_entry_check, entry_check}
+use Rattle.ctr_record_effects.proofs.page_Holding.{most_ok}
+use Rattle.ctr_record_effects.proofs.area_Bytes.{length-piece}
 use Rattle.ctr_walk.specs.Tables.{IsChain, first_at, entry_number, chain_table_check}
 
 piece_field : (n k b m : ℕ) (page : List ℕ) → k + n ≤ m → b + m ≤ length page → field n k (piece b m page) ≡ field n (b + k) page

@@ -9,10 +9,10 @@ use Rattle.ctr_disk.specs.Image.{Image, content}
 use Rattle.ctr_disk.specs.declared.fault.StoreFault.{StoreFault}
 use Rattle.ctr_disk.specs.declared.fault.StoreFault.TheVariants.{Fault}
 use Rattle.ctr_disk.proofs.Moments.{joined, weaker, on_ok}
-use Rattle.ctr_rec.specs.declared.record.Record.{Record}
-use Rattle.ctr_redo.specs.States.{State, steps}
-use Rattle.ctr_redo.specs.Images.{FoldsFront}
-use Rattle.ctr_redo.proofs.StateLaws.{steps-append}
+use Rattle.ctr_record_effects.specs.rec_Record.{Record}
+use Rattle.ctr_record_effects.specs.ctr_redo.States.{State, steps}
+use Rattle.ctr_record_effects.specs.ctr_redo.Images.{FoldsFront}
+use Rattle.ctr_record_effects.proofs.redo_StateLaws.{steps-append}
 use Rattle.ctr_store.specs.Store.{MovesOn, ReachesEnd, View, LeavesFront, Logs, KeepsRoom, LeavesPage}
 
 -- a prefix, and a prefix of the rest

@@ -9,3 +9,4 @@ pub mod Ends
 pub mod Said
 pub mod Telling
 pub mod Entries
+pub use Rattle.ctr_store.proofs.base_GrowLaws as base_GrowLaws

@@ -4,12 +4,12 @@ use Rattle.std.specs.Prelude.{⊤}
 use Rattle.std.proofs.lemmas.Bool.{ltb-false}
 use Rattle.ctr_bytes.specs.Fields.{field}
 use Rattle.ctr_bytes.specs.Following.{◌>>=◌}
-use Rattle.ctr_rec.specs.Damage.{wrong, expect, at_most}
-use Rattle.ctr_rec.proofs.Reading.{bind_ok, guard_ok}
-use Rattle.ctr_redo.specs.States.{page_limit}
-use Rattle.ctr_page.specs.declared.checks.Chain.{Chain}
-use Rattle.ctr_page.specs.Reading.{header_in}
-use Rattle.ctr_page.specs.Damage.{chain_kind, chain_entry, chain_bucket, counted_check, header_check}
+use Rattle.ctr_store.specs.rec_Damage.{wrong, expect, at_most}
+use Rattle.ctr_store.proofs.rec_Reading.{bind_ok, guard_ok}
+use Rattle.ctr_record_effects.specs.ctr_redo.States.{page_limit}
+use Rattle.ctr_record_effects.specs.page_Chain.{Chain}
+use Rattle.ctr_record_effects.specs.page_Reading.{header_in}
+use Rattle.ctr_record_effects.specs.page_Damage.{chain_kind, chain_entry, chain_bucket, counted_check, header_check}
 
 -- the next page of one whose header passes is counted
 pub next_counted : (chain : Chain) (counted : ℕ) (page : List ℕ) → header_check chain counted page ≡ Ok tt → 0 < counted → (header_in page).next < counted

@@ -1,20 +1,20 @@
 -- A record that is logged behind a page that was read.
 use Rattle.std.proofs.Common.{◌≡◌, ℕ, ◌+◌, ◌-◌, ◌^◌, ◌≤◌, ◌<◌, inl, inr, [], ◌∷◌, Result, Ok, Err, false, sym, ◌∙◌, ap, subst, refl, arith}
 use Rattle.std.specs.Prelude.{IsTrue, IfErr, OnOk}
-use Rattle.ctr_base.specs.Base.{IsSoundImage}
+use Rattle.ctr_store.specs.base_Base.{IsSoundImage}
 use Rattle.ctr_types.specs.Faults.{CountsFault, HasFault}
 use Rattle.ctr_disk.specs.declared.fault.StoreFault.TheVariants.{Fault}
 use Rattle.ctr_disk.proofs.Moments.{on_ok}
 use Rattle.ctr_disk.specs.declared.disk.Disk.{Ghosts}
 use Rattle.ctr_disk.specs.Image.{Image}
 use Rattle.ctr_disk.specs.declared.fault.StoreFault.{StoreFault}
-use Rattle.ctr_rec.specs.declared.record.Record.{Record}
-use Rattle.ctr_rec.specs.declared.decoding.BadRecord.{BadRecord}
-use Rattle.ctr_meta.specs.Effects.{effect}
-use Rattle.ctr_meta.specs.Kept.{TablesKept, IsLogged, RoomLeft, opens_added, items_added}
-use Rattle.ctr_meta.specs.Needs.{needs}
-use Rattle.ctr_redo.specs.Overlaid.{overlay_of}
-use Rattle.ctr_redo.specs.Fitting.{LiesInside}
+use Rattle.ctr_record_effects.specs.rec_Record.{Record}
+use Rattle.ctr_store.specs.rec_BadRecord.{BadRecord}
+use Rattle.ctr_store.specs.meta_Effects.{effect}
+use Rattle.ctr_store.specs.meta_Kept.{TablesKept, IsLogged, RoomLeft, opens_added, items_added}
+use Rattle.ctr_store.specs.meta_Needs.{needs}
+use Rattle.ctr_record_effects.specs.ctr_redo.Overlaid.{overlay_of}
+use Rattle.ctr_record_effects.specs.ctr_redo.Fitting.{LiesInside}
 use Rattle.ctr_store.specs.Changes.{IsChange}
 use Rattle.ctr_store.specs.RecordChecks.{record_damage}
 use Rattle.ctr_store.specs.Store.{View, Logs, MayLog, unmet_need, TakesRecord, KeepsRoom, LeavesPage}

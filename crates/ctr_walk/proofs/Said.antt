@@ -4,19 +4,19 @@ use Rattle.std.specs.Prelude.{IfOk}
 use Rattle.std.proofs.lemmas.Bool.{lt-ltb, eq-eqb, ne_eqb}
 use Rattle.ctr_disk.specs.declared.fault.StoreFault.{StoreFault}
 use Rattle.ctr_types.specs.declared.value.Kind.{Kind}
-use Rattle.ctr_rec.specs.declared.decoding.BadRecord.{BadRecord}
-use Rattle.ctr_page.specs.declared.checks.Chain.{Chain}
-use Rattle.ctr_page.specs.declared.checks.Chain.TheVariants.{Rows, Versions}
-use Rattle.ctr_page.specs.declared.walk.BadChain.{BadChain}
-use Rattle.ctr_page.specs.declared.walk.BadChain.TheVariants.{OnPage}
-use Rattle.ctr_page.specs.declared.rows.Place.{Place}
-use Rattle.ctr_page.specs.Reading.{piece}
-use Rattle.ctr_page.specs.Columns.{entry_in, entry_at, columns_in, kinds_of, first_in, versions_first_in}
-use Rattle.ctr_page.specs.Damage.{chain_entry}
-use Rattle.ctr_page.specs.Walking.{most_in_chain}
-use Rattle.ctr_area.specs.Areas.{Firsts, no_pages}
-use Rattle.ctr_area.specs.Reading.{entry_bytes, firsts_of, bucket_numbers, area_of}
-use Rattle.ctr_area.specs.Checked.{kinds_at}
+use Rattle.ctr_store.specs.rec_BadRecord.{BadRecord}
+use Rattle.ctr_record_effects.specs.page_Chain.{Chain}
+use Rattle.ctr_record_effects.specs.page_Chain.TheVariants.{Rows, Versions}
+use Rattle.ctr_record_effects.specs.page_BadChain.{BadChain}
+use Rattle.ctr_record_effects.specs.page_BadChain.TheVariants.{OnPage}
+use Rattle.ctr_record_effects.specs.page_Place.{Place}
+use Rattle.ctr_record_effects.specs.page_Reading.{piece}
+use Rattle.ctr_record_effects.specs.page_Columns.{entry_in, entry_at, columns_in, kinds_of, first_in, versions_first_in}
+use Rattle.ctr_record_effects.specs.page_Damage.{chain_entry}
+use Rattle.ctr_record_effects.specs.page_Walking.{most_in_chain}
+use Rattle.ctr_record_effects.specs.area_Areas.{Firsts, no_pages}
+use Rattle.ctr_record_effects.specs.area_Reading.{entry_bytes, firsts_of, bucket_numbers, area_of}
+use Rattle.ctr_record_effects.specs.area_Checked.{kinds_at}
 use Rattle.ctr_walk.specs.Damage.{EndsTold}
 use Rattle.ctr_walk.specs.declared.table.ChainPages.{ChainPages}
 use Rattle.ctr_walk.specs.Along.{ChainSought, EndsAlong}

@@ -3,9 +3,9 @@ use Rattle.std.proofs.Common.{◌≡◌, ℕ, List, Result, Ok, Err, refl, sym, 
 use Rattle.std.specs.Prelude.{IfOk}
 use Rattle.ctr_disk.specs.declared.disk.Disk.{Ghosts}
 use Rattle.ctr_disk.specs.Image.{Image}
-use Rattle.ctr_rec.specs.declared.decoding.BadRecord.{BadRecord}
-use Rattle.ctr_page.specs.declared.walk.BadChain.{BadChain}
-use Rattle.ctr_page.specs.declared.walk.BadChain.TheVariants.{OnPage, TooLong}
+use Rattle.ctr_store.specs.rec_BadRecord.{BadRecord}
+use Rattle.ctr_record_effects.specs.page_BadChain.{BadChain}
+use Rattle.ctr_record_effects.specs.page_BadChain.TheVariants.{OnPage, TooLong}
 use Rattle.ctr_store.specs.Store.{View, LeavesPage}
 use Rattle.ctr_walk.specs.declared.fault.SearchFault.{SearchFault}
 use Rattle.ctr_walk.specs.declared.fault.SearchFault.TheVariants.{Store, Bad}

@@ -4,16 +4,16 @@ use Rattle.std.specs.Prelude.{nat_lt, not}
 use Rattle.std.specs.List.{AllByRecursion}
 use Rattle.std.proofs.lemmas.Bool.{ne_eqb}
 use Rattle.ctr_record_effects.proofs.ctr_versions.Keys.{known}
-use Rattle.ctr_page.specs.declared.header.Header.{Header}
-use Rattle.ctr_page.specs.declared.rows.Place.{Place}
-use Rattle.ctr_page.specs.Reading.{header_in}
-use Rattle.ctr_page.specs.Searching.{IsFirst}
-use Rattle.ctr_page.specs.Walking.{most_in_chain}
-use Rattle.ctr_area.specs.Areas.{Area}
-use Rattle.ctr_area.specs.Reading.{no_header, area_of}
-use Rattle.ctr_area.specs.Chains.{pages_bound, pages_from, places_from}
-use Rattle.ctr_area.specs.Sound.{IsAmong}
-use Rattle.ctr_area.proofs.Buckets.{each_of, on_chain, in_chain}
+use Rattle.ctr_record_effects.specs.page_Header.{Header}
+use Rattle.ctr_record_effects.specs.page_Place.{Place}
+use Rattle.ctr_record_effects.specs.page_Reading.{header_in}
+use Rattle.ctr_record_effects.specs.page_Searching.{IsFirst}
+use Rattle.ctr_record_effects.specs.page_Walking.{most_in_chain}
+use Rattle.ctr_record_effects.specs.area_Areas.{Area}
+use Rattle.ctr_record_effects.specs.area_Reading.{no_header, area_of}
+use Rattle.ctr_record_effects.specs.area_Chains.{pages_bound, pages_from, places_from}
+use Rattle.ctr_record_effects.specs.area_Sound.{IsAmong}
+use Rattle.ctr_record_effects.proofs.area_Buckets.{each_of, on_chain, in_chain}
 use Rattle.ctr_walk.specs.Along.{ChainSought, EndsPage, EndsAlong}
 
 pub none_from : (n : ℕ) (header : ℕ → Header) → pages_from n header 0 ≡ []

@@ -1,14 +1,14 @@
 -- A search along a chain of pages: each page is checked as it is read, and the search ends at the first
 -- place that is sought, or at the first damage.
 use Rattle.std.specs.Prelude.{◌≡◌, ◌≢◌, ◌⊎◌, ℕ, zero, suc, List, Option, None, Some, Result, Ok, Err}
-use Rattle.ctr_rec.specs.declared.decoding.BadRecord.{BadRecord}
-use Rattle.ctr_page.specs.declared.checks.Chain.{Chain}
-use Rattle.ctr_page.specs.declared.walk.BadChain.{BadChain}
-use Rattle.ctr_page.specs.declared.walk.BadChain.TheVariants.{OnPage, TooLong}
-use Rattle.ctr_page.specs.declared.rows.Place.{Place}
-use Rattle.ctr_page.specs.Reading.{header_in}
-use Rattle.ctr_page.specs.Damage.{header_check}
-use Rattle.ctr_page.specs.Walking.{most_in_chain}
+use Rattle.ctr_store.specs.rec_BadRecord.{BadRecord}
+use Rattle.ctr_record_effects.specs.page_Chain.{Chain}
+use Rattle.ctr_record_effects.specs.page_BadChain.{BadChain}
+use Rattle.ctr_record_effects.specs.page_BadChain.TheVariants.{OnPage, TooLong}
+use Rattle.ctr_record_effects.specs.page_Place.{Place}
+use Rattle.ctr_record_effects.specs.page_Reading.{header_in}
+use Rattle.ctr_record_effects.specs.page_Damage.{header_check}
+use Rattle.ctr_record_effects.specs.page_Walking.{most_in_chain}
 
 -- In which chain a place is sought, where so many pages are counted, and where the search of a page
 -- ends whose header passes.

@@ -5,9 +5,9 @@ use Rattle.ctr_disk.specs.declared.disk.Disk.{Ghosts}
 use Rattle.ctr_disk.specs.Image.{Image}
 use Rattle.ctr_disk.specs.declared.fault.StoreFault.{StoreFault}
 use Rattle.ctr_disk.specs.declared.fault.StoreFault.TheVariants.{Fault}
-use Rattle.ctr_rec.specs.declared.record.Record.{Record}
-use Rattle.ctr_rec.specs.declared.decoding.BadRecord.{BadRecord}
-use Rattle.ctr_base.specs.Base.{IsSoundImage}
+use Rattle.ctr_record_effects.specs.rec_Record.{Record}
+use Rattle.ctr_store.specs.rec_BadRecord.{BadRecord}
+use Rattle.ctr_store.specs.base_Base.{IsSoundImage}
 use Rattle.ctr_store.specs.RecordChecks.{record_damage}
 use Rattle.ctr_store.specs.declared.store.TheConstants.{TURN_BYTES}
 use Rattle.ctr_store.specs.Store.{View, LeavesFront, MovesOn, Logs, unmet_need, RefusesUnfit, TakesRecord}

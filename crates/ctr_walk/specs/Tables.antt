@@ -1,19 +1,19 @@
 -- A chain of pages of a table, by the table's entry of the catalog.
 use Rattle.std.specs.Prelude.{◌≡◌, ◌≢◌, ◌⊎◌, ℕ, ◌+◌, ◌*◌, ◌/◌, ◌%◌, ◌<◌, ◌≤◌, List, take, slice_index, Option, None, Some, ⊤, Result, Ok, Err}
 use Rattle.ctr_types.specs.declared.value.Kind.{Kind}
-use Rattle.ctr_rec.specs.declared.decoding.BadRecord.{BadRecord}
-use Rattle.ctr_page.specs.declared.checks.Chain.{Chain}
-use Rattle.ctr_page.specs.declared.checks.Chain.TheVariants.{Rows, Versions}
-use Rattle.ctr_page.specs.declared.walk.BadChain.{BadChain}
-use Rattle.ctr_page.specs.declared.walk.BadChain.TheVariants.{OnPage}
-use Rattle.ctr_page.specs.declared.rows.Place.{Place}
-use Rattle.ctr_page.specs.declared.table.TheConstants.{ENTRY_SIZE}
-use Rattle.ctr_page.specs.Columns.{entry_at, first_in, versions_first_in, columns_in, kinds_of}
-use Rattle.ctr_page.specs.Damage.{chain_entry, entry_check}
-use Rattle.ctr_page.specs.Walking.{most_in_chain}
-use Rattle.ctr_area.specs.Areas.{Firsts, Area}
-use Rattle.ctr_area.specs.Reading.{firsts_of, area_of}
-use Rattle.ctr_area.specs.Checked.{kinds_at}
+use Rattle.ctr_store.specs.rec_BadRecord.{BadRecord}
+use Rattle.ctr_record_effects.specs.page_Chain.{Chain}
+use Rattle.ctr_record_effects.specs.page_Chain.TheVariants.{Rows, Versions}
+use Rattle.ctr_record_effects.specs.page_BadChain.{BadChain}
+use Rattle.ctr_record_effects.specs.page_BadChain.TheVariants.{OnPage}
+use Rattle.ctr_record_effects.specs.page_Place.{Place}
+use Rattle.ctr_record_effects.specs.page_table_TheConstants.{ENTRY_SIZE}
+use Rattle.ctr_record_effects.specs.page_Columns.{entry_at, first_in, versions_first_in, columns_in, kinds_of}
+use Rattle.ctr_record_effects.specs.page_Damage.{chain_entry, entry_check}
+use Rattle.ctr_record_effects.specs.page_Walking.{most_in_chain}
+use Rattle.ctr_record_effects.specs.area_Areas.{Firsts, Area}
+use Rattle.ctr_record_effects.specs.area_Reading.{firsts_of, area_of}
+use Rattle.ctr_record_effects.specs.area_Checked.{kinds_at}
 use Rattle.ctr_walk.specs.Along.{ChainSought, EndsAlong}
 use Rattle.ctr_walk.specs.Damage.{EndsOnPage}
 use Rattle.ctr_walk.specs.declared.table.TableOf.{TableOf}

@@ -1,10 +1,10 @@
 // The search along a chain of pages of a store.
 ghost use Rattle.std.specs.Prelude.{◌≡◌, ◌≢◌, ◌≤◌, ◌<◌, ℕ, List, Option, Result, false, IfOk, IfSome, length};
-ghost use Rattle.ctr_base.specs.Base.{WhereSound};
+ghost use Rattle.ctr_store.specs.base_Base.{WhereSound};
 ghost use Rattle.ctr_record_effects.specs.States.{pages_in};
-ghost use Rattle.ctr_page.specs.declared.table.TheConstants.{PAGE_SIZE};
-ghost use Rattle.ctr_page.specs.Walking.{most_in_chain};
-ghost use Rattle.ctr_rec.specs.declared.decoding.BadRecord.{BadRecord};
+ghost use Rattle.ctr_record_effects.specs.page_table_TheConstants.{PAGE_SIZE};
+ghost use Rattle.ctr_record_effects.specs.page_Walking.{most_in_chain};
+ghost use Rattle.ctr_store.specs.rec_BadRecord.{BadRecord};
 ghost use Rattle.ctr_walk.specs.Along.{LooksAt, EndsAlong};
 ghost use Rattle.ctr_walk.specs.Damage.{searched, EndsOnPage};
 ghost use Rattle.ctr_store.specs.Parts.{MayCount};
@@ -12,11 +12,9 @@ ghost use Rattle.ctr_store.specs.Store.{LeavesPage};
 ghost use Rattle.ctr_types.specs.declared.value.Kind.{Kind as KindOfColumn};
 
 use crate::fault::{SearchFault, found_on};
-use ctr_base::Origin;
 use ctr_disk::Disk;
-use ctr_page::{BadChain, BadPage, Chain, Place, check_header, read_header};
-use ctr_rec::PageNo;
-use ctr_store::Store;
+use ctr_record_effects::{BadChain, BadPage, Chain, Place, check_header, read_header};
+use ctr_store::{Origin, PageNo, Store};
 use ctr_types::Kind;
 
 /// What is sought on the pages of a chain.

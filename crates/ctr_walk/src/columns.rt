@@ -1,11 +1,11 @@
 // The columns of an entry of the catalog that passes its check.
 ghost use Rattle.std.specs.Prelude.{◌≡◌, ◌≢◌, ◌≤◌, ◌+◌, ◌*◌, ℕ, List, Ok, length};
 ghost use Rattle.ctr_types.specs.declared.value.Column.{Column};
-ghost use Rattle.ctr_value.specs.Columns.{ColumnsFit};
-ghost use Rattle.ctr_value.specs.Payload.{IsKeyed};
-ghost use Rattle.ctr_page.specs.declared.table.TheConstants.{ENTRY_SIZE};
-ghost use Rattle.ctr_page.specs.Columns.{entry_at, columns_in};
-ghost use Rattle.ctr_page.specs.Damage.{entry_check};
+ghost use Rattle.ctr_record_effects.specs.value_Columns.{ColumnsFit};
+ghost use Rattle.ctr_record_effects.specs.value_Payload.{IsKeyed};
+ghost use Rattle.ctr_record_effects.specs.page_table_TheConstants.{ENTRY_SIZE};
+ghost use Rattle.ctr_record_effects.specs.page_Columns.{entry_at, columns_in};
+ghost use Rattle.ctr_record_effects.specs.page_Damage.{entry_check};
 ghost use Rattle.ctr_walk.specs.Columns.{AreNamed};
 
 /// An entry of the catalog that passes its check, and isn't free, has columns that a table may have: 1 to 8 of them, each with a

@@ -5,16 +5,14 @@ ghost use Rattle.ctr_disk.specs.Image.{Image};
 ghost use Rattle.ctr_disk.specs.declared.fault.StoreFault.{StoreFault};
 ghost use Rattle.ctr_disk.specs.declared.fault.StoreFault.TheVariants.{Fault};
 ghost use Rattle.ctr_store.specs.ctr_home.Reading.{IsFaultOr};
-ghost use Rattle.ctr_base.specs.Base.{WhereSound, IsSoundImage};
+ghost use Rattle.ctr_store.specs.base_Base.{WhereSound, IsSoundImage};
 ghost use Rattle.ctr_store.specs.Store.{View, LeavesPage};
 ghost use Rattle.ctr_walk.specs.Damage.{damaged_page, damage_behind, damage_told, searched, TellsFound, ReadsPages};
 
 use crate::fault::SearchFault;
-use ctr_base::Origin;
 use ctr_disk::{Disk, StoreFault};
-use ctr_page::BadChain;
-use ctr_rec::PageNo;
-use ctr_store::Store;
+use ctr_record_effects::BadChain;
+use ctr_store::{Origin, PageNo, Store};
 use ctr_types::{Damage, File};
 
 // The page that damage is told of.

@@ -4,8 +4,8 @@ ghost use Rattle.ctr_walk.specs.declared.fault.SearchFault.TheVariants.{Store as
 ghost use Rattle.ctr_walk.specs.Damage.{found_on};
 
 use ctr_disk::StoreFault;
-use ctr_page::{BadChain, BadPage};
-use ctr_rec::PageNo;
+use ctr_record_effects::{BadChain, BadPage};
+use ctr_store::PageNo;
 
 /// Why a search on pages of a store has no answer.
 #[derive(Clone, Copy, Debug, PartialEq, Eq)]

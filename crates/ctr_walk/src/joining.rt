@@ -2,15 +2,12 @@
 ghost use Rattle.std.specs.Prelude.{◌≡◌, false, [], Ok, Err, Result, List, ℕ};
 ghost use Rattle.ctr_disk.specs.Image.{Image};
 ghost use Rattle.ctr_disk.specs.declared.fault.StoreFault.{StoreFault};
-ghost use Rattle.ctr_rec.specs.declared.record.Record.{Record};
+ghost use Rattle.ctr_record_effects.specs.rec_Record.{Record};
 ghost use Rattle.ctr_store.specs.Store.{View, LeavesFront, MovesOn, Logs, MayLog, KeepsRoom, LeavesPage};
 ghost use Rattle.ctr_walk.specs.OneRecord.{LogsOne, AnswersLog};
 
-use ctr_base::Origin;
 use ctr_disk::{Disk, StoreFault};
-use ctr_log::Lsn;
-use ctr_rec::Record as LogRecord;
-use ctr_store::Store;
+use ctr_store::{Lsn, Origin, Record as LogRecord, Store};
 
 /// Behind a page that was read another call goes on from what stood before: what a crash leaves, what is logged, and
 /// the room that is kept are those of both together.

@@ -1,20 +1,18 @@
 // A record on a page, which is read first.
 ghost use Rattle.std.specs.Prelude.{◌≡◌, ◌<◌, ◌≤◌, ℕ, false, OnOk, length};
-ghost use Rattle.ctr_rec.specs.declared.record.Record.{Record};
-ghost use Rattle.ctr_meta.specs.Kept.{IsLogged, opens_added, items_added};
-ghost use Rattle.ctr_redo.specs.States.{page_limit, page_at};
-ghost use Rattle.ctr_redo.specs.Overlaid.{overlay_of};
-ghost use Rattle.ctr_redo.specs.Fitting.{LiesInside};
-ghost use Rattle.ctr_base.specs.Base.{WhereSound};
+ghost use Rattle.ctr_record_effects.specs.rec_Record.{Record};
+ghost use Rattle.ctr_store.specs.meta_Kept.{IsLogged, opens_added, items_added};
+ghost use Rattle.ctr_record_effects.specs.ctr_redo.States.{page_limit, page_at};
+ghost use Rattle.ctr_record_effects.specs.ctr_redo.Overlaid.{overlay_of};
+ghost use Rattle.ctr_record_effects.specs.ctr_redo.Fitting.{LiesInside};
+ghost use Rattle.ctr_store.specs.base_Base.{WhereSound};
 ghost use Rattle.ctr_store.specs.Changes.{IsChange};
 ghost use Rattle.ctr_store.specs.Store.{View, MayLog, LeavesPage};
 ghost use Rattle.ctr_walk.specs.OneRecord.{HasRoomForOne, LogsOne};
 
 use crate::joining::{a_record_behind_a_page, log_record};
-use ctr_base::Origin;
 use ctr_disk::{Disk, StoreFault};
-use ctr_rec::{PageNo, Record as LogRecord};
-use ctr_store::Store;
+use ctr_store::{Origin, PageNo, Record as LogRecord, Store};
 
 // Brings a page into a frame.
 fn bring<D: Disk, O: Origin>(store: &mut Store<D, O>, page: PageNo) -> Result<(), StoreFault>

@@ -1,21 +1,21 @@
 // The chains of pages of a table, by its entry of the catalog.
 ghost use Rattle.std.specs.Prelude.{◌≡◌, ◌≢◌, ◌≤◌, ◌<◌, ◌+◌, ◌/◌, ◌%◌, false, IfOk, IfSome, length};
-ghost use Rattle.ctr_base.specs.Base.{WhereSound};
+ghost use Rattle.ctr_store.specs.base_Base.{WhereSound};
 ghost use Rattle.ctr_walk.specs.Damage.{damage_told, searched, EndsOnPage, EndsTold, ReadsPages};
 ghost use Rattle.ctr_record_effects.specs.States.{pages_in};
-ghost use Rattle.ctr_page.specs.Damage.{chain_entry};
-ghost use Rattle.ctr_page.specs.declared.table.TheConstants.{PAGE_SIZE, ENTRY_SIZE};
+ghost use Rattle.ctr_record_effects.specs.page_Damage.{chain_entry};
+ghost use Rattle.ctr_record_effects.specs.page_table_TheConstants.{PAGE_SIZE, ENTRY_SIZE};
 ghost use Rattle.ctr_walk.specs.Tables.{IsChain, kinds_said, first_at, first_said as first_on, chain_table_check, ChainSaid, FirstSaid, PagesFit, EndsChain, EndsFirst};
 ghost use Rattle.ctr_store.specs.Store.{LeavesPage};
 
 use crate::along::{PageSought, search_pages};
 use crate::damage::tell;
 use crate::fault::{SearchFault, found_on};
-use ctr_base::Origin;
 use ctr_disk::{Disk, StoreFault};
-use ctr_page::{BadPage, CatalogEntry, Chain, EntryState, Place, check_entry, read_entry};
-use ctr_rec::PageNo;
-use ctr_store::Store;
+use ctr_record_effects::{
+    BadPage, CatalogEntry, Chain, EntryState, Place, check_entry, read_entry,
+};
+use ctr_store::{Origin, PageNo, Store};
 use ctr_types::Kind;
 
 /// The table of an entry of the catalog.

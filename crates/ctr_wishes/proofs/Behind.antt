@@ -11,14 +11,14 @@ use Rattle.ctr_rec.specs.declared.decoding.BadRecord.{BadRecord}
 use Rattle.ctr_page.specs.declared.walk.BadChain.{BadChain}
 use Rattle.ctr_page.specs.declared.walk.BadChain.TheVariants.{OnPage, TooLong}
 use Rattle.ctr_store.specs.Store.{View}
-use Rattle.ctr_walk.specs.Damage.{EndsTold, ReadsPages}
-use Rattle.ctr_walk.proofs.Joins.{answers_ok}
-use Rattle.ctr_walk.proofs.Damages.{reads_err}
-use Rattle.ctr_catalog.specs.declared.columns.SchemaRefusal.{SchemaRefusal}
-use Rattle.ctr_catalog.specs.declared.columns.SchemaRefusal.TheVariants as without
-use Rattle.ctr_catalog.specs.Columns.{EndsChecked, as_given}
-use Rattle.ctr_chain.specs.declared.view.ReadRefusal.{ReadRefusal}
-use Rattle.ctr_chain.specs.declared.view.ReadRefusal.TheVariants as unread
+use Rattle.ctr_reading.specs.walk_Damage.{EndsTold, ReadsPages}
+use Rattle.ctr_reading.proofs.walk_Joins.{answers_ok}
+use Rattle.ctr_reading.proofs.walk_Damages.{reads_err}
+use Rattle.ctr_reading.specs.catalog_SchemaRefusal.{SchemaRefusal}
+use Rattle.ctr_reading.specs.catalog_SchemaRefusal.TheVariants as without
+use Rattle.ctr_reading.specs.catalog_Columns.{EndsChecked, as_given}
+use Rattle.ctr_reading.specs.chain_ReadRefusal.{ReadRefusal}
+use Rattle.ctr_reading.specs.chain_ReadRefusal.TheVariants as unread
 use Rattle.ctr_reading.specs.Reading.{as_told, IsDiskOrMemory}
 use Rattle.ctr_reading.proofs.Told.{reads_behind}
 use Rattle.ctr_wishes.specs.Preparing.{schema_read}

@@ -27,10 +27,10 @@ use Rattle.ctr_area.proofs.Buckets.{each_of}
 use Rattle.ctr_record_laws.proofs.Loosened.{kept_for}
 use Rattle.ctr_record_effects.specs.States.{pages_in, area_in}
 use Rattle.ctr_record_effects.specs.Standing.{IsDatabaseState}
-use Rattle.ctr_undamaged.proofs.There.{slot_page, older_page}
-use Rattle.ctr_chain.specs.Visible.{visible_row}
+use Rattle.ctr_reading.proofs.undamaged_There.{slot_page, older_page}
+use Rattle.ctr_reading.specs.chain_Visible.{visible_row}
 use Rattle.ctr_names.specs.Search.{IsEntryFound}
-use Rattle.ctr_catalog.specs.Columns.{columns_there}
+use Rattle.ctr_reading.specs.catalog_Columns.{columns_there}
 use Rattle.ctr_area.specs.Images.{is_live}
 use Rattle.ctr_reading.specs.Reading.{IsSeen}
 use Rattle.ctr_wishes.proofs.Good.{IsGood, IfGood}

@@ -24,8 +24,8 @@ use Rattle.ctr_value.specs.Payload.{IsKeyed, payload_of}
 use Rattle.ctr_value.proofs.PayloadLaws.{row_written as row_encoded}
 use Rattle.ctr_value.proofs.ValueLaws.{row_said as row_decoded}
 use Rattle.ctr_area.specs.Reading.{version_said}
-use Rattle.ctr_heap.specs.Ways.{IsHeadOf}
-use Rattle.ctr_heap.proofs.Made.{row_made, zeros_made}
+use Rattle.ctr_reading.specs.heap_Ways.{IsHeadOf}
+use Rattle.ctr_reading.proofs.heap_Made.{row_made, zeros_made}
 use Rattle.ctr_wishes.specs.HeadMade.{HeadMade}
 use Rattle.ctr_wishes.specs.Heads.{version_by, head_of, unsuited, HasPayload, IsRefusedOr, IsWished}
 use Rattle.ctr_wishes.specs.Models.{LaysChange, IsModels}

@@ -9,7 +9,7 @@ use Rattle.ctr_model.specs.Refusals.{table_of, key_written, write_refusal}
 use Rattle.ctr_model.specs.Reply.{changes_of}
 use Rattle.ctr_versions.specs.Keys.{row_written}
 use Rattle.ctr_area.specs.Reading.{version_said}
-use Rattle.ctr_heap.specs.Ways.{IsHeadOf}
+use Rattle.ctr_reading.specs.heap_Ways.{IsHeadOf}
 use Rattle.ctr_wishes.specs.HeadMade.{HeadMade}
 use Rattle.ctr_wishes.specs.Heads.{version_by}
 use Rattle.ctr_wishes.specs.declared.making.Prepared.{Prepared}

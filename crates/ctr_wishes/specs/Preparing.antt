@@ -9,11 +9,11 @@ use Rattle.ctr_types.specs.declared.tape.Refusal.TheVariants as refusal
 use Rattle.ctr_model.specs.Refusals.{key_written}
 use Rattle.ctr_value.specs.Columns.{ColumnsFit}
 use Rattle.ctr_area.specs.Areas.{Area}
-use Rattle.ctr_catalog.specs.declared.columns.SchemaRefusal.{SchemaRefusal}
-use Rattle.ctr_catalog.specs.declared.columns.SchemaRefusal.TheVariants as without
-use Rattle.ctr_catalog.specs.Columns.{columns_there}
-use Rattle.ctr_chain.specs.declared.view.ReadRefusal.{ReadRefusal}
-use Rattle.ctr_chain.specs.declared.view.ReadRefusal.TheVariants as unread
+use Rattle.ctr_reading.specs.catalog_SchemaRefusal.{SchemaRefusal}
+use Rattle.ctr_reading.specs.catalog_SchemaRefusal.TheVariants as without
+use Rattle.ctr_reading.specs.catalog_Columns.{columns_there}
+use Rattle.ctr_reading.specs.chain_ReadRefusal.{ReadRefusal}
+use Rattle.ctr_reading.specs.chain_ReadRefusal.TheVariants as unread
 use Rattle.ctr_reading.specs.Reading.{IsSeen}
 use Rattle.ctr_wishes.specs.declared.making.Prepared.{Prepared}
 use Rattle.ctr_wishes.specs.declared.making.Prepared.TheVariants.{Refused}

@@ -18,17 +18,15 @@ ghost use Rattle.ctr_record_effects.specs.States.{area_in};
 ghost use Rattle.ctr_record_effects.specs.Standing.{IsDatabaseState};
 ghost use Rattle.ctr_legal.specs.Kept.{IsFirm};
 ghost use Rattle.ctr_names.specs.Search.{IsEntryFound};
-ghost use Rattle.ctr_actions.specs.Sites.{site_of};
-ghost use Rattle.ctr_paged.specs.Shown.{Scene, IsShown};
-ghost use Rattle.ctr_views.specs.Viewing.{Viewer, sees_by};
+ghost use Rattle.ctr_reading.specs.actions_Sites.{site_of};
+ghost use Rattle.ctr_reading.specs.paged_Shown.{Scene, IsShown};
+ghost use Rattle.ctr_reading.specs.ctr_views.Viewing.{Viewer, sees_by};
 ghost use Rattle.ctr_wishes.specs.declared.making.Prepared.{Prepared};
 ghost use Rattle.ctr_wishes.specs.Preparing.{IsPrepared};
 ghost use Rattle.ctr_wishes.specs.Models.{IsModels, reply_of};
 
 use ctr_model::snapshots_stay;
-use ctr_reading::rows_are_those_of_the_view;
-use ctr_views::a_scan_gives_the_table;
-use ctr_walk::an_entry_has_columns;
+use ctr_reading::{a_scan_gives_the_table, an_entry_has_columns, rows_are_those_of_the_view};
 
 /// Where nothing speaks against the Lock of a statement, whose table the session has found, what is prepared is what the model says of its Write: it is
 /// refused exactly where the model refuses the Write, and for that; and the head that is laid is a version of a row of the table by any transaction,

@@ -10,6 +10,7 @@ mod making;
 mod preparing;
 
 pub use ctr_reading as reading;
+pub use ctr_reading::{ReadRefusal, an_action_meets_its_needs};
 pub use head::Head;
 pub use laws::{what_is_prepared_is_the_models, what_is_prepared_stays_the_models};
 pub use making::Prepared;

@@ -7,10 +7,10 @@ ghost use Rattle.ctr_wishes.specs.Heads.{IsLaid, IsRefusedOr, IsWished};
 
 use crate::fitting::bad_from;
 use crate::head::Head;
+use ctr_reading::an_entry_has_columns;
 use ctr_statement::updated;
 use ctr_types::{OutOfMemory, Plain, Refusal, Row, Schema, Set, Statement};
 use ctr_value::{encode_row, width};
-use ctr_walk::an_entry_has_columns;
 use std::alloc::Global;
 
 /// What a Write will do.

@@ -5,21 +5,20 @@ ghost use Rattle.ctr_value.specs.Columns.{ColumnsFit};
 ghost use Rattle.ctr_base.specs.Base.{WhereSound};
 ghost use Rattle.ctr_record_effects.specs.States.{area_in};
 ghost use Rattle.ctr_record_effects.specs.Standing.{HasSoundArea, IsDatabaseState};
-ghost use Rattle.ctr_walk.specs.Damage.{ReadsPages};
-ghost use Rattle.ctr_catalog.specs.Columns.{columns_there};
+ghost use Rattle.ctr_reading.specs.walk_Damage.{ReadsPages};
+ghost use Rattle.ctr_reading.specs.catalog_Columns.{columns_there};
 ghost use Rattle.ctr_reading.specs.Reading.{as_told, sees, IsDiskOrMemory};
 ghost use Rattle.ctr_wishes.specs.Preparing.{schema_read, columns_read, IsPrepared};
 
 use crate::making::{Prepared, wished};
 use ctr_base::Origin;
-use ctr_catalog::{SchemaRefusal, schema};
-use ctr_chain::ReadRefusal;
 use ctr_disk::Disk;
-use ctr_reading::{Sight, row_of_key};
+use ctr_reading::{
+    ReadRefusal, SchemaRefusal, Sight, a_catalog_search_meets_no_damage, row_of_key, schema,
+};
 use ctr_statement::key_written;
 use ctr_store::Store;
 use ctr_types::{Refusal, Schema, Statement};
-use ctr_undamaged::a_catalog_search_meets_no_damage;
 use std::alloc::Global;
 
 // Why the columns aren't read, as a reading is refused.

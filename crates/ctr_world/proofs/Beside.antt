@@ -16,10 +16,10 @@ use Rattle.ctr_legal.proofs.Reached.{final_push}
 use Rattle.ctr_actions.specs.Sites.{site_of}
 use Rattle.ctr_locks.specs.Shows.{ShowsKeyLocks}
 use Rattle.ctr_store.specs.Store.{View}
-use Rattle.ctr_kept.specs.Walk.{Mind}
-use Rattle.ctr_kept.specs.Turns.{Start, point_now, start_point, state_now, release_entry}
-use Rattle.ctr_stops.specs.World.{KeepsWorld}
-use Rattle.ctr_txn.specs.Held.{IsOneOfEight}
+use Rattle.ctr_undo.specs.kept_Walk.{Mind}
+use Rattle.ctr_undo.specs.kept_Turns.{Start, point_now, start_point, state_now, release_entry}
+use Rattle.ctr_undo.specs.stops_World.{KeepsWorld}
+use Rattle.ctr_exec.specs.txn_Held.{IsOneOfEight}
 use Rattle.ctr_undo.specs.Left.{UndoLeft}
 use Rattle.ctr_undo.specs.Turns.{Undoes}
 use Rattle.ctr_undo.specs.Keeping.{list_of, undone_to, name_undone, released_to}

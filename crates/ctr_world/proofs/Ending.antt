@@ -14,8 +14,8 @@ use Rattle.ctr_names.specs.Held.{names_of_items}
 use Rattle.ctr_redo.specs.States.{State}
 use Rattle.ctr_record_effects.specs.States.{area_in}
 use Rattle.ctr_record_effects.specs.Standing.{StandsForDatabase}
-use Rattle.ctr_kept.specs.Turns.{start_point}
-use Rattle.ctr_stops.specs.Stops.{Course, HasFirstCommits, KeepsCommits}
+use Rattle.ctr_undo.specs.kept_Turns.{start_point}
+use Rattle.ctr_undo.specs.stops_Stops.{Course, HasFirstCommits, KeepsCommits}
 use Rattle.ctr_store.specs.Store.{View, LeavesFront}
 use Rattle.ctr_undo.specs.Left.{left_in, IsOver as NoneIsLeft}
 use Rattle.ctr_exec.specs.Runners.{made_at, runner_at}

@@ -8,7 +8,7 @@ use Rattle.ctr_area.specs.Sound.{IsAmong}
 use Rattle.ctr_base.specs.declared.growing.TheConstants.{MOST_PAGES}
 use Rattle.ctr_record_laws.proofs.Members.{among_parts}
 use Rattle.ctr_store.specs.Store.{View}
-use Rattle.ctr_kept.specs.Turns.{release_entry}
+use Rattle.ctr_undo.specs.kept_Turns.{release_entry}
 use Rattle.ctr_exec.specs.Acting.{WantsRoom}
 use Rattle.ctr_world.specs.World.{FullCountsAll, IsFullEntry}
 

@@ -15,10 +15,10 @@ use Rattle.ctr_base.specs.Base.{IsSoundImage}
 use Rattle.ctr_model.specs.Tape.{Legal, at_start, final}
 use Rattle.ctr_redo.specs.States.{State}
 use Rattle.ctr_record_effects.specs.Standing.{StandsForDatabase}
-use Rattle.ctr_kept.specs.Turns.{Start, start_point}
-use Rattle.ctr_kept.specs.Walk.{Mind}
-use Rattle.ctr_stops.specs.Stops.{LeavesPrefixAt, LeftSince}
-use Rattle.ctr_stops.specs.World.{KeepsWorld, course_of}
+use Rattle.ctr_undo.specs.kept_Turns.{Start, start_point}
+use Rattle.ctr_undo.specs.kept_Walk.{Mind}
+use Rattle.ctr_undo.specs.stops_Stops.{LeavesPrefixAt, LeftSince}
+use Rattle.ctr_undo.specs.stops_World.{KeepsWorld, course_of}
 use Rattle.ctr_store.specs.Store.{View}
 use Rattle.ctr_undo.specs.Left.{left_in}
 use Rattle.ctr_exec.specs.ctr_session_world.Ready.{LeavesDisk, LeavesFrontOrGrows}

@@ -11,10 +11,10 @@ use Rattle.ctr_disk.specs.Image.{Image}
 use Rattle.ctr_names.specs.Held.{names_of_items}
 use Rattle.ctr_redo.specs.States.{State}
 use Rattle.ctr_record_effects.specs.States.{area_in}
-use Rattle.ctr_kept.specs.Turns.{Start}
-use Rattle.ctr_kept.specs.Undo.{Undo}
-use Rattle.ctr_kept.specs.Walk.{Mind}
-use Rattle.ctr_stops.specs.World.{KeepsWorld}
+use Rattle.ctr_undo.specs.kept_Turns.{Start}
+use Rattle.ctr_undo.specs.kept_Undo.{Undo}
+use Rattle.ctr_undo.specs.kept_Walk.{Mind}
+use Rattle.ctr_undo.specs.stops_World.{KeepsWorld}
 use Rattle.ctr_store.specs.Store.{View}
 use Rattle.ctr_undo.specs.Left.{UndoLeft}
 use Rattle.ctr_undo.specs.Turns.{MayUndo}

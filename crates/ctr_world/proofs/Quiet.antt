@@ -8,12 +8,12 @@ use Rattle.ctr_disk.specs.declared.disk.Disk.{Ghosts}
 use Rattle.ctr_disk.specs.Image.{Image}
 use Rattle.ctr_meta.specs.Kept.{TablesKept}
 use Rattle.ctr_names.specs.Held.{names_of_items}
-use Rattle.ctr_txn.specs.Held.{TxnsHeld}
-use Rattle.ctr_txn.specs.Rooms.{HasItemRoom}
+use Rattle.ctr_exec.specs.txn_Held.{TxnsHeld}
+use Rattle.ctr_exec.specs.txn_Rooms.{HasItemRoom}
 use Rattle.ctr_redo.specs.States.{State}
 use Rattle.ctr_record_effects.specs.States.{area_in}
-use Rattle.ctr_kept.specs.Turns.{Start}
-use Rattle.ctr_kept.specs.Walk.{Mind}
+use Rattle.ctr_undo.specs.kept_Turns.{Start}
+use Rattle.ctr_undo.specs.kept_Walk.{Mind}
 use Rattle.ctr_store.specs.Store.{View, KeepsRoom, LeavesFront, LeavesPage, Logs}
 use Rattle.ctr_flush.specs.Turns.{KeepsPages}
 use Rattle.ctr_exec.specs.ctr_session_world.Ready.{LeavesDisk, StandOver, Front}

@@ -21,8 +21,8 @@ use Rattle.ctr_base.specs.Base.{IsSoundImage}
 use Rattle.ctr_store.specs.Opening.{IsUndamaged, LeavesFirst, RefusesAs}
 use Rattle.ctr_store.specs.Store.{LeavesFront, View}
 use Rattle.ctr_store.specs.StoreOpening.{OpensStore}
-use Rattle.ctr_stops.proofs.Fronts.{take_none}
-use Rattle.ctr_walk.specs.Damage.{ReadsPages}
+use Rattle.ctr_undo.proofs.stops_Fronts.{take_none}
+use Rattle.ctr_undo.specs.walk_Damage.{ReadsPages}
 use Rattle.ctr_world.specs.Begun.{IsOfReading}
 use Rattle.ctr_world.specs.Ended.{PassesOpening, RefusesWorld}
 

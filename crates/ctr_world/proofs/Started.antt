@@ -16,15 +16,15 @@ use Rattle.ctr_record_effects.specs.States.{area_in}
 use Rattle.ctr_record_effects.specs.Standing.{IsDatabaseState, StandsForDatabase}
 use Rattle.ctr_actions.specs.Sites.{site_of}
 use Rattle.ctr_base.specs.Base.{IsSoundImage}
-use Rattle.ctr_kept.specs.Turns.{Start}
-use Rattle.ctr_kept.specs.Walk.{Mind, mind_at}
-use Rattle.ctr_stops.specs.World.{KeepsWorld, starting}
+use Rattle.ctr_undo.specs.kept_Turns.{Start}
+use Rattle.ctr_undo.specs.kept_Walk.{Mind, mind_at}
+use Rattle.ctr_undo.specs.stops_World.{KeepsWorld, starting}
 use Rattle.ctr_store.specs.Opening.{LeavesFirst}
 use Rattle.ctr_store.specs.Store.{LeavesFront, LeavesPage, View}
 use Rattle.ctr_store.specs.StoreOpening.{OpensStore}
-use Rattle.ctr_stops.proofs.Fronts.{take_none}
-use Rattle.ctr_stops.proofs.Opened.{now_is}
-use Rattle.ctr_page_turns.specs.Turns.{RestsBehind}
+use Rattle.ctr_undo.proofs.stops_Fronts.{take_none}
+use Rattle.ctr_undo.proofs.stops_Opened.{now_is}
+use Rattle.ctr_undo.specs.page_turns_Turns.{RestsBehind}
 use Rattle.ctr_exec.specs.declared.sessions.Sessions.{Sessions as SessionsAt}
 use Rattle.ctr_exec.specs.Sessions.{AreFresh, ShowsSessions}
 use Rattle.ctr_world.specs.declared.beginning.Begun.{Begun}

@@ -22,11 +22,11 @@ use Rattle.ctr_actions.specs.Sites.{Site, site_of}
 use Rattle.ctr_actions.specs.Facts.{HasTable}
 use Rattle.ctr_locks.specs.Held.{LocksOfSession}
 use Rattle.ctr_locks.specs.Shows.{ShowsKeyLocks}
-use Rattle.ctr_kept.specs.Undo.{IsUndoLeft}
-use Rattle.ctr_kept.specs.Walk.{Mind}
-use Rattle.ctr_kept.specs.Turns.{Start, KeepsRun, state_now}
-use Rattle.ctr_kept.proofs.Walking.{keeps_reached}
-use Rattle.ctr_txn.specs.Held.{TxnHeld, TxnsHeld, held_from, run_of}
+use Rattle.ctr_undo.specs.kept_Undo.{IsUndoLeft}
+use Rattle.ctr_undo.specs.kept_Walk.{Mind}
+use Rattle.ctr_undo.specs.kept_Turns.{Start, KeepsRun, state_now}
+use Rattle.ctr_undo.proofs.kept_Walking.{keeps_reached}
+use Rattle.ctr_exec.specs.txn_Held.{TxnHeld, TxnsHeld, held_from, run_of}
 use Rattle.ctr_undo.specs.declared.list.UndoItem.{UndoItem}
 use Rattle.ctr_undo.specs.declared.list.UndoItem.TheVariants.{Slog, Orphan}
 use Rattle.ctr_undo.specs.Left.{UndoLeft, Goes}

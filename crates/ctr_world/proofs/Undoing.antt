@@ -10,10 +10,10 @@ use Rattle.ctr_disk.specs.declared.disk.Disk.{Ghosts}
 use Rattle.ctr_disk.specs.declared.fault.StoreFault.{StoreFault}
 use Rattle.ctr_disk.specs.Image.{Image}
 use Rattle.ctr_store.specs.Store.{LeavesFront, View}
-use Rattle.ctr_txn.specs.Held.{TxnsHeld}
-use Rattle.ctr_txn.specs.Rooms.{HasItemRoom, items_kept}
-use Rattle.ctr_page_turns.specs.Rooms.{AddsItems}
-use Rattle.ctr_page_turns.specs.Turns.{LogsAtRest}
+use Rattle.ctr_exec.specs.txn_Held.{TxnsHeld}
+use Rattle.ctr_exec.specs.txn_Rooms.{HasItemRoom, items_kept}
+use Rattle.ctr_undo.specs.page_turns_Rooms.{AddsItems}
+use Rattle.ctr_undo.specs.page_turns_Turns.{LogsAtRest}
 use Rattle.ctr_undo.specs.declared.turning.UndoTurn.{UndoTurn}
 use Rattle.ctr_undo.specs.declared.turning.UndoTurn.TheVariants.{Undone, Over}
 use Rattle.ctr_undo.specs.Left.{UndoLeft, left_in}

@@ -13,12 +13,12 @@ use Rattle.ctr_redo.specs.States.{State}
 use Rattle.ctr_record_effects.specs.States.{area_in}
 use Rattle.ctr_actions.specs.Sites.{Site, site_of}
 use Rattle.ctr_actions.specs.Actions.{Action}
-use Rattle.ctr_kept.specs.Turns.{Start, KeepsRun, state_now}
-use Rattle.ctr_kept.specs.Walk.{Mind}
-use Rattle.ctr_stops.specs.World.{KeepsWorld}
+use Rattle.ctr_undo.specs.kept_Turns.{Start, KeepsRun, state_now}
+use Rattle.ctr_undo.specs.kept_Walk.{Mind}
+use Rattle.ctr_undo.specs.stops_World.{KeepsWorld}
 use Rattle.ctr_store.specs.Store.{View}
-use Rattle.ctr_page_turns.specs.Turns.{LogsAtRest}
-use Rattle.ctr_page_turns.specs.Acts.{ActsBy}
+use Rattle.ctr_undo.specs.page_turns_Turns.{LogsAtRest}
+use Rattle.ctr_undo.specs.page_turns_Acts.{ActsBy}
 use Rattle.ctr_undo.specs.declared.list.UndoItem.{UndoItem}
 use Rattle.ctr_undo.specs.declared.list.UndoItem.TheVariants.{Slog, Orphan}
 use Rattle.ctr_undo.specs.Left.{UndoLeft, Goes}

@@ -11,7 +11,7 @@ use Rattle.ctr_model.specs.declared.tape.Progress.{Progress}
 use Rattle.ctr_model.specs.Tape.{IsWhole, final, passed, passed_by, progress_of, statement_of, statements_of}
 use Rattle.ctr_legal.proofs.Answered.{order}
 use Rattle.ctr_versions.proofs.Keys.{known}
-use Rattle.ctr_txn.specs.Held.{IsOneOfEight}
+use Rattle.ctr_exec.specs.txn_Held.{IsOneOfEight}
 use Rattle.ctr_exec.specs.declared.sessions.Sessions.{Sessions}
 use Rattle.ctr_exec.specs.Runners.{runner_at, made_at}
 use Rattle.ctr_exec.specs.Sessions.{AreSeated}

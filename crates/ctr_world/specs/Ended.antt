@@ -16,7 +16,7 @@ use Rattle.ctr_record_laws.specs.Owed.{HasNoItems}
 use Rattle.ctr_home.specs.declared.root.Root.{Root}
 use Rattle.ctr_redo.specs.States.{State}
 use Rattle.ctr_record_effects.specs.Standing.{StandsForDatabase}
-use Rattle.ctr_stops.specs.Stops.{HasFirstCommits}
+use Rattle.ctr_undo.specs.stops_Stops.{HasFirstCommits}
 use Rattle.ctr_base.specs.declared.growing.TheConstants.{MOST_PAGES}
 use Rattle.ctr_base.specs.Opening.{FindsRoot}
 use Rattle.ctr_store.specs.Opening.{LogPasses, OverlaidPass, RefusesAs, worn_in}

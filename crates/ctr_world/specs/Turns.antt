@@ -13,7 +13,7 @@ use Rattle.ctr_model.specs.State.{has_name}
 use Rattle.ctr_store.specs.Store.{turns_for_room}
 use Rattle.ctr_flush.specs.declared.flusher.FlushTurn.TheVariants.{Wrote}
 use Rattle.ctr_flush.specs.Turns.{AnswersTurn, IsIdle, IsShort}
-use Rattle.ctr_txn.specs.Held.{IsOneOfEight}
+use Rattle.ctr_exec.specs.txn_Held.{IsOneOfEight}
 use Rattle.ctr_undo.specs.declared.list.UndoItem.{UndoItem}
 use Rattle.ctr_undo.specs.declared.list.UndoItem.TheVariants.{Slog, Orphan}
 use Rattle.ctr_undo.specs.Left.{left_in, IsOver as NoneIsLeft}

@@ -22,10 +22,10 @@ use Rattle.ctr_names.specs.Held.{names_of_items}
 use Rattle.ctr_redo.specs.States.{State}
 use Rattle.ctr_record_effects.specs.States.{area_in}
 use Rattle.ctr_record_effects.specs.Standing.{StandsForDatabase}
-use Rattle.ctr_kept.specs.Turns.{Start, start_point}
-use Rattle.ctr_kept.specs.Walk.{Mind}
-use Rattle.ctr_stops.specs.Stops.{LeavesPrefixAt, LeftSince}
-use Rattle.ctr_stops.specs.World.{starting}
+use Rattle.ctr_undo.specs.kept_Turns.{Start, start_point}
+use Rattle.ctr_undo.specs.kept_Walk.{Mind}
+use Rattle.ctr_undo.specs.stops_Stops.{LeavesPrefixAt, LeftSince}
+use Rattle.ctr_undo.specs.stops_World.{starting}
 use Rattle.ctr_undo.specs.Left.{left_in}
 use Rattle.ctr_undo.specs.Keeping.{list_of}
 use Rattle.ctr_exec.specs.ctr_session_world.Ready.{StandOver}

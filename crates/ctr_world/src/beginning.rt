@@ -3,7 +3,7 @@ ghost use Rattle.std.specs.Prelude.{◌≡◌, ◌≤◌, ◌<◌, ℕ, false, I
 ghost use Rattle.ctr_record_effects.specs.Standing.{IsDatabaseState};
 ghost use Rattle.ctr_base.specs.Base.{WhereSound};
 ghost use Rattle.ctr_store.specs.Opening.{IsUndamaged};
-ghost use Rattle.ctr_walk.specs.Damage.{ReadsPages};
+ghost use Rattle.ctr_undo.specs.walk_Damage.{ReadsPages};
 ghost use Rattle.ctr_exec.specs.Order.{IsOrdered};
 ghost use Rattle.ctr_exec.specs.Sessions.{AreFresh, AreSeated};
 ghost use Rattle.ctr_world.specs.Opened.{CanRun};

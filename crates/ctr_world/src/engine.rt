@@ -2,8 +2,8 @@
 ghost use Rattle.std.specs.Prelude.{◌≡◌, ◌≢◌, ◌<◌, ◌≤◌, ◌+◌, ◌-◌, ◌^◌, ℕ, [], false, OnOk, IfOk};
 ghost use Rattle.ctr_types.specs.declared.tape.Actor.TheVariants as who;
 ghost use Rattle.ctr_base.specs.Base.{WhereSound};
-ghost use Rattle.ctr_kept.specs.Turns.{Start};
-ghost use Rattle.ctr_kept.specs.Walk.{Mind};
+ghost use Rattle.ctr_undo.specs.kept_Turns.{Start};
+ghost use Rattle.ctr_undo.specs.kept_Walk.{Mind};
 ghost use Rattle.ctr_redo.specs.States.{State};
 ghost use Rattle.ctr_store.specs.Store.{HasTurnRoom, turns_for_room};
 ghost use Rattle.ctr_flush.specs.Turns.{AnswersTurn, KeepsPages};
@@ -25,13 +25,12 @@ use ctr_exec::Sessions;
 use ctr_exec::control::{flush, make_room};
 use ctr_exec::session_world::pages_that_are_read_keep_a_world;
 use ctr_flush::{FlushTurn, a_sound_state_can_be_listed, turn as flush_store};
-use ctr_kept::recovery_is_in_no_transaction;
 use ctr_store::Store;
 use ctr_tally::Steps;
 use ctr_types::{Name, Turn};
 use ctr_undo::{
     UndoItem, UndoList, UndoTurn, a_name_is_released_with_its_last_item, a_turn_of_undo_is_kept,
-    names_of_what_is_left_stay, turn, undo_takes_a_turn_an_item,
+    names_of_what_is_left_stay, recovery_is_in_no_transaction, turn, undo_takes_a_turn_an_item,
 };
 use std::alloc::Global;
 use std::marker::Brand;

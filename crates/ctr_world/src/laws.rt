@@ -2,9 +2,9 @@
 ghost use Rattle.std.specs.Prelude.{ℕ};
 ghost use Rattle.ctr_actions.specs.Sites.{site_of};
 ghost use Rattle.ctr_store.specs.Store.{View};
-ghost use Rattle.ctr_kept.specs.Walk.{Mind};
-ghost use Rattle.ctr_kept.specs.Turns.{Start};
-ghost use Rattle.ctr_stops.specs.World.{KeepsWorld};
+ghost use Rattle.ctr_undo.specs.kept_Walk.{Mind};
+ghost use Rattle.ctr_undo.specs.kept_Turns.{Start};
+ghost use Rattle.ctr_undo.specs.stops_World.{KeepsWorld};
 ghost use Rattle.ctr_undo.specs.Left.{UndoLeft};
 ghost use Rattle.ctr_undo.specs.Turns.{Undoes};
 ghost use Rattle.ctr_undo.specs.Keeping.{list_of, undone_to, name_undone, released_to};

@@ -24,9 +24,9 @@ use ctr_disk::{Disk, Stop};
 use ctr_exec::session_world::pages_that_are_read_keep_a_world;
 use ctr_exec::{Sessions, a_script_begins_in_a_world};
 use ctr_log::OpenError;
-use ctr_stops::{a_call_that_ends_leaves_a_prefix, a_world_begins};
 use ctr_store::Store;
 use ctr_types::{Actor, Entry, List, Script, Tape, Turn};
+use ctr_undo::{a_call_that_ends_leaves_a_prefix, a_world_begins};
 use std::alloc::Global;
 use std::marker::Model;
 

@@ -13,13 +13,13 @@ use Rattle.ctr_area.specs.Areas.{Title, Slot}
 use Rattle.ctr_area.specs.Sound.{IsAmong}
 use Rattle.ctr_area.proofs.Buckets.{each_of}
 use Rattle.ctr_redo.specs.States.{State}
-use Rattle.ctr_record_effects.specs.States.{area_in}
-use Rattle.ctr_actions.specs.Sites.{Site, site_of}
-use Rattle.ctr_actions.specs.Facts.{Fact, IsOpen, HasTable, HasBlank, HasNoPageBut, HasSlot, HasCopy, HoldsFact}
-use Rattle.ctr_passed.specs.Logged.{IsBlankPage}
-use Rattle.ctr_kept.specs.Carried.{IsUnderLock, IsOfEntry}
-use Rattle.ctr_kept.specs.Turns.{Carries}
-use Rattle.ctr_kept.proofs.Tables.{among_first}
+use Rattle.ctr_extend.specs.record_effects_States.{area_in}
+use Rattle.ctr_extend.specs.actions_Sites.{Site, site_of}
+use Rattle.ctr_extend.specs.actions_Facts.{Fact, IsOpen, HasTable, HasBlank, HasNoPageBut, HasSlot, HasCopy, HoldsFact}
+use Rattle.ctr_extend.specs.passed_Logged.{IsBlankPage}
+use Rattle.ctr_extend.specs.kept_Carried.{IsUnderLock, IsOfEntry}
+use Rattle.ctr_extend.specs.kept_Turns.{Carries}
+use Rattle.ctr_extend.proofs.kept_Tables.{among_first}
 use Rattle.ctr_extend.specs.Ways.{way_facts}
 use Rattle.ctr_extend.proofs.Carrying.{way_held, blank_way}
 use Rattle.ctr_write.specs.declared.stages.Stage.{Stage}

@@ -7,9 +7,9 @@ use Rattle.ctr_page.specs.declared.checks.Chain.TheVariants.{Rows, Versions}
 use Rattle.ctr_page.specs.declared.rows.Place.{Place}
 use Rattle.ctr_page.specs.Places.{bucket_of}
 use Rattle.ctr_redo.specs.States.{State}
-use Rattle.ctr_record_effects.specs.States.{area_in}
-use Rattle.ctr_record_laws.specs.Owed.{FirstVersion, IsRoomFor}
-use Rattle.ctr_heap.specs.Finding.{FindsFree}
+use Rattle.ctr_extend.specs.record_effects_States.{area_in}
+use Rattle.ctr_extend.specs.record_laws_Owed.{FirstVersion, IsRoomFor}
+use Rattle.ctr_extend.specs.heap_Finding.{FindsFree}
 use Rattle.ctr_extend.specs.declared.ways.OnWay.TheVariants.{Wanted}
 use Rattle.ctr_write.specs.declared.stages.Written.{Written}
 use Rattle.ctr_write.specs.declared.stages.Written.TheVariants.{On, Done}
@@ -20,7 +20,7 @@ use Rattle.ctr_write.specs.Laying.{Wish, LaysHead}
 use Rattle.ctr_write.specs.Keeping.{off, KeepsOff}
 use Rattle.ctr_write.specs.Steps.{EndsPlacing, MayPlace, EndsKeeping}
 use Rattle.ctr_area.specs.Areas.{RowVersion}
-use Rattle.ctr_pvs.specs.Along.{FindsFreeEntry}
+use Rattle.ctr_extend.specs.pvs_Along.{FindsFreeEntry}
 
 -- a turn that is at a stage behind it has that stage's facts, whatever the disk tells
 pub so_far : (is : Written) (Left : Written → Type 0) (P : Written → Type 0) (result : Result Written StoreFault) → P is → IfOk result (λ w. (w ≡ is) × Left w) → IfOk result P

@@ -4,8 +4,8 @@ use Rattle.std.specs.Prelude.{IfOk}
 use Rattle.ctr_disk.specs.declared.fault.StoreFault.{StoreFault}
 use Rattle.ctr_meta.specs.Kept.{TablesKept}
 use Rattle.ctr_page.specs.declared.checks.Chain.{Chain}
-use Rattle.ctr_store.specs.Store.{View, KeepsRoom}
-use Rattle.ctr_walk.specs.Tables.{IsChain}
+use Rattle.ctr_extend.specs.store_Store.{View, KeepsRoom}
+use Rattle.ctr_extend.specs.walk_Tables.{IsChain}
 use Rattle.ctr_extend.specs.declared.ways.Extended.{Extended}
 use Rattle.ctr_extend.specs.declared.ways.Extended.TheVariants.{On, Linked, Grown, Full}
 use Rattle.ctr_extend.specs.Steps.{IsCountedStep, LeavesRoom, MovesBy}

@@ -15,15 +15,15 @@ use Rattle.ctr_page.specs.Columns.{column_kind_at, kind_said, columns_from, colu
 use Rattle.ctr_page.specs.Damage.{from_1_check, firsts_check, column_check, columns_check, used_entry_check, entry_check}
 use Rattle.ctr_page.proofs.Passing.{from_1_holds}
 use Rattle.ctr_page.proofs.Holding.{most_ok}
-use Rattle.ctr_walk.proofs.Entries.{both_ok}
+use Rattle.ctr_extend.proofs.walk_Entries.{both_ok}
 use Rattle.ctr_area.specs.Chains.{slot_places}
 use Rattle.ctr_area.specs.Reading.{entry_bytes}
 use Rattle.ctr_area.specs.Sound.{IsAmong}
 use Rattle.ctr_redo.specs.States.{State}
-use Rattle.ctr_record_effects.specs.States.{pages_in, area_in}
-use Rattle.ctr_record_effects.specs.Standing.{IsDatabaseState}
-use Rattle.ctr_passed.specs.Laid.{width_in}
-use Rattle.ctr_undamaged.proofs.There.{slot_page}
+use Rattle.ctr_extend.specs.record_effects_States.{pages_in, area_in}
+use Rattle.ctr_extend.specs.record_effects_Standing.{IsDatabaseState}
+use Rattle.ctr_extend.specs.passed_Laid.{width_in}
+use Rattle.ctr_extend.proofs.undamaged_There.{slot_page}
 
 -- a byte of a part of a list, however long the list is
 take_byte : (k m : ℕ) (xs : List ℕ) → k < m → field 1 k (take m xs) ≡ field 1 k xs

@@ -10,10 +10,10 @@ use Rattle.ctr_page.specs.Places.{slot_size, kept_size, start_of, room_for}
 use Rattle.ctr_page.proofs.Searches.{lies_on_page}
 use Rattle.ctr_page.specs.declared.walk.BadChain.{BadChain}
 use Rattle.ctr_area.specs.Reading.{area_of}
-use Rattle.ctr_walk.specs.Damage.{EndsTold}
-use Rattle.ctr_pvs.specs.Slots.{SlotLiesAt, SlotSaidAt}
-use Rattle.ctr_chain.specs.Seeking.{entries_on, sought_in, sought_at, xids_found}
-use Rattle.ctr_undamaged.specs.Undamaged.{MeetsNoDamage}
+use Rattle.ctr_extend.specs.walk_Damage.{EndsTold}
+use Rattle.ctr_extend.specs.pvs_Slots.{SlotLiesAt, SlotSaidAt}
+use Rattle.ctr_extend.specs.chain_Seeking.{entries_on, sought_in, sought_at, xids_found}
+use Rattle.ctr_extend.specs.undamaged_Undamaged.{MeetsNoDamage}
 
 -- a search that meets no damage is answered an error by the disk alone
 pub by_disk : {T B : Type 0} (Ends : Result T B → Type 0) (told : B → StoreFault) (result : Result T StoreFault) → MeetsNoDamage Ends → EndsTold told Ends result → IfErr result (λ e. e ≡ Fault)

@@ -7,18 +7,18 @@ use Rattle.ctr_page.specs.declared.rows.RowSlot.{RowSlot}
 use Rattle.ctr_page.specs.declared.table.TheConstants.{PAGE_SIZE}
 use Rattle.ctr_page.specs.Places.{slot_size, start_of}
 use Rattle.ctr_page.specs.Making.{IsSlot}
-use Rattle.ctr_pvs.specs.Slots.{SlotLiesAt}
-use Rattle.ctr_heap.specs.Writing.{LiesOnPage}
+use Rattle.ctr_extend.specs.pvs_Slots.{SlotLiesAt}
+use Rattle.ctr_extend.specs.heap_Writing.{LiesOnPage}
 use Rattle.ctr_meta.specs.Tables.{Tables, is_in}
 use Rattle.ctr_meta.specs.Effects.{one_head_less}
 use Rattle.ctr_area.specs.Images.{is_committed_in}
-use Rattle.ctr_record_laws.specs.Owed.{loses_head}
+use Rattle.ctr_extend.specs.record_laws_Owed.{loses_head}
 use Rattle.ctr_area.specs.Sound.{IsUsedSlot, PreviousBelow}
 use Rattle.ctr_redo.specs.States.{State}
-use Rattle.ctr_record_effects.specs.States.{area_in}
-use Rattle.ctr_record_effects.specs.Standing.{IsDatabaseState}
-use Rattle.ctr_actions.specs.Sites.{Site}
-use Rattle.ctr_actions.specs.Facts.{Fact, HoldsFact}
+use Rattle.ctr_extend.specs.record_effects_States.{area_in}
+use Rattle.ctr_extend.specs.record_effects_Standing.{IsDatabaseState}
+use Rattle.ctr_extend.specs.actions_Sites.{Site}
+use Rattle.ctr_extend.specs.actions_Facts.{Fact, HoldsFact}
 use Rattle.ctr_write.specs.Keeping.{IsOfSlot}
 
 -- a fact holds of a site that is the one of which it holds

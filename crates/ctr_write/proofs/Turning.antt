@@ -6,9 +6,9 @@ use Rattle.ctr_page.specs.declared.rows.Place.{Place}
 use Rattle.ctr_area.specs.Areas.{Area}
 use Rattle.ctr_area.specs.Sound.{AreKeyed}
 use Rattle.ctr_redo.specs.States.{State}
-use Rattle.ctr_record_effects.specs.States.{area_in}
-use Rattle.ctr_record_laws.specs.Owed.{IsSlotOfKey}
-use Rattle.ctr_heap.specs.Finding.{FindsKey}
+use Rattle.ctr_extend.specs.record_effects_States.{area_in}
+use Rattle.ctr_extend.specs.record_laws_Owed.{IsSlotOfKey}
+use Rattle.ctr_extend.specs.heap_Finding.{FindsKey}
 use Rattle.ctr_write.specs.declared.stages.Written.{Written}
 use Rattle.ctr_write.specs.Laying.{Wish}
 use Rattle.ctr_write.specs.Steps.{EndsPlacing, EndsOver, EndsLooking}

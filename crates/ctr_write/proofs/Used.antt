@@ -8,19 +8,19 @@ use Rattle.ctr_page.specs.declared.rows.RowSlot.{RowSlot}
 use Rattle.ctr_page.specs.Places.{has_previous}
 use Rattle.ctr_area.specs.Areas.{RowVersion, Slot, free_slot, nowhere}
 use Rattle.ctr_area.specs.Reading.{slot_said, version_said, older_said}
-use Rattle.ctr_heap.specs.Writing.{slot_width}
-use Rattle.ctr_heap.specs.Ways.{IsWay, kept_version}
-use Rattle.ctr_heap.specs.declared.ways.Way.{Way}
-use Rattle.ctr_heap.specs.declared.ways.Way.TheVariants.{ReplaceHead, MoveHead, KeepPrevious, KeepHead}
+use Rattle.ctr_extend.specs.heap_Writing.{slot_width}
+use Rattle.ctr_extend.specs.heap_Ways.{IsWay, kept_version}
+use Rattle.ctr_extend.specs.heap_Way.{Way}
+use Rattle.ctr_extend.specs.heap_Way.TheVariants.{ReplaceHead, MoveHead, KeepPrevious, KeepHead}
 use Rattle.ctr_disk.specs.declared.fault.StoreFault.{StoreFault}
 use Rattle.ctr_page.specs.declared.rows.Place.{Place}
 use Rattle.ctr_page.specs.declared.rows.VersionEntry.{VersionEntry}
 use Rattle.ctr_area.specs.Images.{is_committed_in}
 use Rattle.ctr_redo.specs.States.{State}
-use Rattle.ctr_record_effects.specs.States.{area_in}
-use Rattle.ctr_record_laws.specs.Owed.{IsSpareCopy, Writing, older_copy}
-use Rattle.ctr_passed.specs.Laid.{width_in}
-use Rattle.ctr_passed.specs.Logged.{LeadsInside}
+use Rattle.ctr_extend.specs.record_effects_States.{area_in}
+use Rattle.ctr_extend.specs.record_laws_Owed.{IsSpareCopy, Writing, older_copy}
+use Rattle.ctr_extend.specs.passed_Laid.{width_in}
+use Rattle.ctr_extend.specs.passed_Logged.{LeadsInside}
 use Rattle.ctr_write.specs.declared.stages.Written.{Written}
 use Rattle.ctr_write.specs.declared.stages.Written.TheVariants.{Done}
 use Rattle.ctr_write.specs.Laying.{Wish, LaysHead, IsReadyFor}

@@ -6,13 +6,13 @@ use Rattle.ctr_page.specs.declared.rows.Place.{Place}
 use Rattle.ctr_page.specs.declared.rows.Version.{Version}
 use Rattle.ctr_page.specs.Columns.{kinds_of, kinds_width}
 use Rattle.ctr_area.specs.Areas.{Title, RowVersion, Slot}
-use Rattle.ctr_actions.specs.Facts.{Fact, IsOpen, HasTable, HasNoPageBut, HasSlot, HasCopy}
-use Rattle.ctr_store.specs.Store.{View}
-use Rattle.ctr_heap.specs.Ways.{IsHeadOf}
-use Rattle.ctr_kept.specs.Tables.{AreTables}
-use Rattle.ctr_kept.specs.Walk.{Mind}
-use Rattle.ctr_kept.specs.Turns.{Start, InTransaction}
-use Rattle.ctr_stops.specs.World.{KeepsWorld}
+use Rattle.ctr_extend.specs.actions_Facts.{Fact, IsOpen, HasTable, HasNoPageBut, HasSlot, HasCopy}
+use Rattle.ctr_extend.specs.store_Store.{View}
+use Rattle.ctr_extend.specs.heap_Ways.{IsHeadOf}
+use Rattle.ctr_extend.specs.kept_Tables.{AreTables}
+use Rattle.ctr_extend.specs.kept_Walk.{Mind}
+use Rattle.ctr_extend.specs.kept_Turns.{Start, InTransaction}
+use Rattle.ctr_extend.specs.stops_World.{KeepsWorld}
 use Rattle.ctr_extend.specs.Keeping.{facts_on_way}
 use Rattle.ctr_write.specs.declared.stages.Stage.{Stage}
 use Rattle.ctr_write.specs.declared.stages.Stage.TheVariants.{Looking, Extending, Kept}

@@ -6,16 +6,16 @@ use Rattle.ctr_page.specs.declared.rows.VersionEntry.{VersionEntry}
 use Rattle.ctr_area.specs.Areas.{RowVersion, Slot}
 use Rattle.ctr_area.specs.Reading.{older_said}
 use Rattle.ctr_area.specs.Sound.{IsUsedSlot}
-use Rattle.ctr_record_laws.specs.Owed.{older_copy}
+use Rattle.ctr_extend.specs.record_laws_Owed.{older_copy}
 use Rattle.ctr_redo.specs.States.{State}
-use Rattle.ctr_record_effects.specs.States.{area_in}
-use Rattle.ctr_record_effects.specs.Standing.{IsDatabaseState}
-use Rattle.ctr_actions.specs.Sites.{site_of}
-use Rattle.ctr_actions.specs.Actions.{Keeps}
-use Rattle.ctr_actions.specs.Facts.{HasSlot, HasCopy, HoldsFact}
-use Rattle.ctr_passed.specs.Logged.{IsOlderOf}
-use Rattle.ctr_pvs.specs.Along.{FindsFreeEntry}
-use Rattle.ctr_page_turns.specs.Acts.{ActsBy}
+use Rattle.ctr_extend.specs.record_effects_States.{area_in}
+use Rattle.ctr_extend.specs.record_effects_Standing.{IsDatabaseState}
+use Rattle.ctr_extend.specs.actions_Sites.{site_of}
+use Rattle.ctr_extend.specs.actions_Actions.{Keeps}
+use Rattle.ctr_extend.specs.actions_Facts.{HasSlot, HasCopy, HoldsFact}
+use Rattle.ctr_extend.specs.passed_Logged.{IsOlderOf}
+use Rattle.ctr_extend.specs.pvs_Along.{FindsFreeEntry}
+use Rattle.ctr_extend.specs.page_turns_Acts.{ActsBy}
 
 -- a version is one that a slot has
 abbrev pub IsOfSlot : Slot → RowVersion → Type 0

@@ -7,16 +7,16 @@ use Rattle.ctr_page.specs.declared.rows.RowSlot.{RowSlot}
 use Rattle.ctr_area.specs.Reading.{version_said, slot_said}
 use Rattle.ctr_area.specs.Sound.{IsUsedSlot}
 use Rattle.ctr_area.specs.Images.{is_committed_in}
-use Rattle.ctr_record_laws.specs.Owed.{RowMove, Writing, IsSpareCopy}
+use Rattle.ctr_extend.specs.record_laws_Owed.{RowMove, Writing, IsSpareCopy}
 use Rattle.ctr_redo.specs.States.{State}
-use Rattle.ctr_record_effects.specs.States.{area_in}
-use Rattle.ctr_record_effects.specs.Standing.{IsDatabaseState}
-use Rattle.ctr_actions.specs.Actions.{Writes}
-use Rattle.ctr_passed.specs.Laid.{width_in}
-use Rattle.ctr_passed.specs.Logged.{IsSlotOf, LeadsInside}
-use Rattle.ctr_heap.specs.Ways.{IsHeadOf, IsWay, kept_version}
-use Rattle.ctr_heap.specs.declared.ways.Way.{Way}
-use Rattle.ctr_page_turns.specs.Acts.{ActsBy}
+use Rattle.ctr_extend.specs.record_effects_States.{area_in}
+use Rattle.ctr_extend.specs.record_effects_Standing.{IsDatabaseState}
+use Rattle.ctr_extend.specs.actions_Actions.{Writes}
+use Rattle.ctr_extend.specs.passed_Laid.{width_in}
+use Rattle.ctr_extend.specs.passed_Logged.{IsSlotOf, LeadsInside}
+use Rattle.ctr_extend.specs.heap_Ways.{IsHeadOf, IsWay, kept_version}
+use Rattle.ctr_extend.specs.heap_Way.{Way}
+use Rattle.ctr_extend.specs.page_turns_Acts.{ActsBy}
 
 -- What is to be written: for the row of a key of a table this head, by whom.
 pub record Wish : Type 0 where

@@ -5,3 +5,4 @@ pub mod Keeping
 pub mod Laying
 pub mod Steps
 pub mod Carrying
+pub use Rattle.ctr_extend.specs as ctr_extend

@@ -6,14 +6,14 @@ use Rattle.ctr_page.specs.declared.rows.Place.{Place}
 use Rattle.ctr_page.specs.Places.{bucket_of, has_previous}
 use Rattle.ctr_meta.specs.Kept.{TablesKept}
 use Rattle.ctr_redo.specs.States.{State}
-use Rattle.ctr_page_turns.specs.Rooms.{AddsItems}
+use Rattle.ctr_extend.specs.page_turns_Rooms.{AddsItems}
 use Rattle.ctr_area.specs.Areas.{RowVersion, Slot}
-use Rattle.ctr_record_effects.specs.States.{area_in}
-use Rattle.ctr_actions.specs.Sites.{site_of}
-use Rattle.ctr_actions.specs.Facts.{HasSlot, HasCopy, HasNoPageBut, HoldsFact}
-use Rattle.ctr_passed.specs.Laid.{width_in}
-use Rattle.ctr_store.specs.Store.{View}
-use Rattle.ctr_walk.specs.Tables.{IsChain}
+use Rattle.ctr_extend.specs.record_effects_States.{area_in}
+use Rattle.ctr_extend.specs.actions_Sites.{site_of}
+use Rattle.ctr_extend.specs.actions_Facts.{HasSlot, HasCopy, HasNoPageBut, HoldsFact}
+use Rattle.ctr_extend.specs.passed_Laid.{width_in}
+use Rattle.ctr_extend.specs.store_Store.{View}
+use Rattle.ctr_extend.specs.walk_Tables.{IsChain}
 use Rattle.ctr_extend.specs.declared.ways.Extended.TheVariants.{On as OnItsWay, Linked, Grown as IsGrown}
 use Rattle.ctr_extend.specs.Ways.{IsOnWay, IsCountedWay, items_wanted}
 use Rattle.ctr_extend.specs.Steps.{LeavesRoom, MovesBy}

@@ -9,13 +9,13 @@ use Rattle.ctr_page.specs.Places.{bucket_of}
 use Rattle.ctr_area.specs.Areas.{RowVersion}
 use Rattle.ctr_area.specs.Reading.{slot_said}
 use Rattle.ctr_redo.specs.States.{State}
-use Rattle.ctr_record_effects.specs.States.{area_in}
-use Rattle.ctr_record_effects.specs.Standing.{IsDatabaseState}
-use Rattle.ctr_record_laws.specs.Owed.{Writing, FirstVersion, IsSlotOfKey, IsRoomFor}
-use Rattle.ctr_passed.specs.Laid.{width_in}
-use Rattle.ctr_passed.specs.Logged.{IsSlotOf}
-use Rattle.ctr_heap.specs.Finding.{FindsFree}
-use Rattle.ctr_pvs.specs.Along.{FindsFreeEntry}
+use Rattle.ctr_extend.specs.record_effects_States.{area_in}
+use Rattle.ctr_extend.specs.record_effects_Standing.{IsDatabaseState}
+use Rattle.ctr_extend.specs.record_laws_Owed.{Writing, FirstVersion, IsSlotOfKey, IsRoomFor}
+use Rattle.ctr_extend.specs.passed_Laid.{width_in}
+use Rattle.ctr_extend.specs.passed_Logged.{IsSlotOf}
+use Rattle.ctr_extend.specs.heap_Finding.{FindsFree}
+use Rattle.ctr_extend.specs.pvs_Along.{FindsFreeEntry}
 use Rattle.ctr_extend.specs.declared.ways.OnWay.TheVariants.{Wanted}
 use Rattle.ctr_write.specs.declared.stages.Stage.{Stage}
 use Rattle.ctr_write.specs.declared.stages.Stage.TheVariants.{Looking, Extending, Kept}

@@ -5,24 +5,22 @@ ghost use Rattle.std.specs.Option.{option_map};
 ghost use Rattle.ctr_base.specs.Base.{WhereSound};
 ghost use Rattle.ctr_page.specs.Making.{IsSlot};
 ghost use Rattle.ctr_area.specs.Reading.{slot_said, columns_on, area_of};
-ghost use Rattle.ctr_passed.specs.Logged.{IsSlotOf};
+ghost use Rattle.ctr_extend.specs.passed_Logged.{IsSlotOf};
 ghost use Rattle.ctr_area.specs.Chains.{slot_places};
 ghost use Rattle.ctr_area.specs.Sound.{IsAmong};
-ghost use Rattle.ctr_record_effects.specs.States.{pages_in, area_in};
-ghost use Rattle.ctr_record_effects.specs.Standing.{IsDatabaseState};
-ghost use Rattle.ctr_walk.specs.Damage.{ReadsPages};
-ghost use Rattle.ctr_pvs.specs.Slots.{part_lent, slot_lent, SlotLiesAt};
-ghost use Rattle.ctr_heap.specs.Writing.{slot_width};
+ghost use Rattle.ctr_extend.specs.record_effects_States.{pages_in, area_in};
+ghost use Rattle.ctr_extend.specs.record_effects_Standing.{IsDatabaseState};
+ghost use Rattle.ctr_extend.specs.walk_Damage.{ReadsPages};
+ghost use Rattle.ctr_extend.specs.pvs_Slots.{part_lent, slot_lent, SlotLiesAt};
+ghost use Rattle.ctr_extend.specs.heap_Writing.{slot_width};
 ghost use Rattle.ctr_write.specs.Copies.{version_copied, slot_copied, VersionFits, CopyFits};
 
 use ctr_base::Origin;
 use ctr_disk::{Disk, StoreFault};
+use ctr_extend::{LentPart, LentSlot, Store, a_row_is_read_without_damage, row};
 use ctr_page::{Place, RowSlot, Tombstone, Use, Version};
-use ctr_pvs::{LentPart, LentSlot, row};
 use ctr_rec::Bytes;
-use ctr_store::Store;
 use ctr_types::Xid;
-use ctr_undamaged::a_row_is_read_without_damage;
 
 /// The most bytes of a payload.
 const WIDEST: usize = 2_048;

@@ -2,9 +2,9 @@
 ghost use Rattle.std.specs.Prelude.{◌≡◌, IfOk, IfErr};
 ghost use Rattle.ctr_disk.specs.declared.fault.StoreFault.TheVariants.{Fault};
 ghost use Rattle.ctr_base.specs.Base.{WhereSound};
-ghost use Rattle.ctr_walk.specs.OneRecord.{HasRoomForOne};
-ghost use Rattle.ctr_walk.specs.Tables.{IsChain};
-ghost use Rattle.ctr_page_turns.specs.Turns.{Turns};
+ghost use Rattle.ctr_extend.specs.walk_OneRecord.{HasRoomForOne};
+ghost use Rattle.ctr_extend.specs.walk_Tables.{IsChain};
+ghost use Rattle.ctr_extend.specs.page_turns_Turns.{Turns};
 ghost use Rattle.ctr_extend.specs.Ways.{IsCountedWay, items_wanted};
 ghost use Rattle.ctr_extend.specs.Steps.{MayExtend};
 ghost use Rattle.ctr_write.specs.Stages.{IsCountedWrite, LeavesItem, MovesWrite};
@@ -13,10 +13,8 @@ ghost use Rattle.ctr_write.specs.Extending.{written_from, ExtendsFor};
 use crate::stages::{Stage, Written};
 use ctr_base::Origin;
 use ctr_disk::{Disk, StoreFault};
-use ctr_extend::{Extended, OnWay, extend};
+use ctr_extend::{Extended, OnWay, Store, a_turn_goes_on, extend};
 use ctr_page::Chain;
-use ctr_page_turns::a_turn_goes_on;
-use ctr_store::Store;
 use ctr_types::Xid;
 
 // What a turn for a page is to a Write: once it is linked, the row's slot is looked for again.

@@ -7,10 +7,10 @@ ghost use Rattle.ctr_page.specs.declared.table.TheConstants.{PAGE_SIZE};
 ghost use Rattle.ctr_page.specs.Places.{kept_size as size_of_kept, start_of};
 ghost use Rattle.ctr_page.specs.Making.{IsEntry};
 ghost use Rattle.ctr_area.specs.Areas.{RowVersion};
-ghost use Rattle.ctr_store.specs.Store.{View, LeavesPage};
-ghost use Rattle.ctr_walk.specs.OneRecord.{HasRoomForOne};
-ghost use Rattle.ctr_pvs.specs.Writing.{EntryLies, entry_width};
-ghost use Rattle.ctr_page_turns.specs.Turns.{Turns};
+ghost use Rattle.ctr_extend.specs.store_Store.{View, LeavesPage};
+ghost use Rattle.ctr_extend.specs.walk_OneRecord.{HasRoomForOne};
+ghost use Rattle.ctr_extend.specs.pvs_Writing.{EntryLies, entry_width};
+ghost use Rattle.ctr_extend.specs.page_turns_Turns.{Turns};
 ghost use Rattle.ctr_write.specs.declared.stages.Stage.TheVariants.{Kept};
 ghost use Rattle.ctr_write.specs.declared.stages.Written.TheVariants.{On};
 ghost use Rattle.ctr_write.specs.Stages.{LeavesItem, MovesWrite};
@@ -18,16 +18,15 @@ ghost use Rattle.ctr_write.specs.Keeping.{IsCopyFor, MayKeepAt, off, KeepsOff};
 
 use crate::misfit::misfit;
 use crate::stages::{Stage, Written};
-use ctr_actions::{an_action_gives_its_fact, what_is_done_stays};
 use ctr_base::Origin;
 use ctr_disk::{Disk, StoreFault};
+use ctr_extend::{
+    Store, a_place_of_a_table_fits, a_record_acts, a_record_is_refused_by_the_disk_alone,
+    a_turn_goes_on, a_version_is_put_at_its_place, an_action_gives_its_fact, keep,
+    owed_versions_are_laid_as_their_actions, what_is_done_stays,
+};
 use ctr_page::{Place, VersionEntry, kept_size};
-use ctr_page_turns::{a_record_acts, a_record_is_refused_by_the_disk_alone, a_turn_goes_on};
-use ctr_passed::owed_versions_are_laid_as_their_actions;
-use ctr_pvs::keep;
-use ctr_store::Store;
 use ctr_types::Xid;
-use ctr_undamaged::{a_place_of_a_table_fits, a_version_is_put_at_its_place};
 
 /// The bytes of a page.
 const PAGE: usize = 4_096;

@@ -1,21 +1,22 @@
 // The Write of a row in a World on pages. A call does nothing: what it ensures is the law.
 ghost use Rattle.std.specs.Prelude.{◌≡◌, ◌++◌};
 ghost use Rattle.ctr_page.specs.declared.rows.Place.{Place};
-ghost use Rattle.ctr_record_effects.specs.States.{area_in};
-ghost use Rattle.ctr_store.specs.Store.{View};
-ghost use Rattle.ctr_kept.specs.Walk.{Mind};
-ghost use Rattle.ctr_kept.specs.Turns.{Start, carrying};
-ghost use Rattle.ctr_stops.specs.World.{KeepsWorld};
-ghost use Rattle.ctr_page_turns.specs.Turns.{LogsAtRest};
+ghost use Rattle.ctr_extend.specs.record_effects_States.{area_in};
+ghost use Rattle.ctr_extend.specs.store_Store.{View};
+ghost use Rattle.ctr_extend.specs.kept_Walk.{Mind};
+ghost use Rattle.ctr_extend.specs.kept_Turns.{Start, carrying};
+ghost use Rattle.ctr_extend.specs.stops_World.{KeepsWorld};
+ghost use Rattle.ctr_extend.specs.page_turns_Turns.{LogsAtRest};
 ghost use Rattle.ctr_write.specs.declared.stages.Stage.TheVariants.{Looking};
 ghost use Rattle.ctr_write.specs.Keeping.{off, KeepsOff};
 ghost use Rattle.ctr_write.specs.Steps.{MayTakeTurn};
 ghost use Rattle.ctr_write.specs.Carrying.{KeptOf, facts_kept, IsAtWrite, wish_of};
 
-use ctr_actions::what_is_done_stays;
 use ctr_disk::Disk;
-use ctr_kept::a_turn_without_an_entry_is_kept;
-use ctr_stops::{a_turn_of_a_world_is_kept, an_action_keeps_the_pages};
+use ctr_extend::{
+    a_turn_of_a_world_is_kept, a_turn_without_an_entry_is_kept, an_action_keeps_the_pages,
+    what_is_done_stays,
+};
 
 /// In a World a session that writes a row may take a turn of its Write, whatever others did since its last one; and a turn that kept a
 /// version first keeps the World, in which the session carries the slot and the copy. A turn for a page keeps it by the law of ctr_extend.

@@ -3,12 +3,12 @@ ghost use Rattle.std.specs.Prelude.{◌≡◌, ◌≤◌, ◌<◌, ℕ, ℤ, len
 ghost use Rattle.ctr_disk.specs.declared.fault.StoreFault.TheVariants.{Fault};
 ghost use Rattle.ctr_base.specs.Base.{WhereSound};
 ghost use Rattle.ctr_page.specs.Making.{IsVersion};
-ghost use Rattle.ctr_record_effects.specs.States.{area_in};
-ghost use Rattle.ctr_record_laws.specs.Owed.{IsRoomFor, FirstVersion};
-ghost use Rattle.ctr_store.specs.Store.{View, LeavesPage};
-ghost use Rattle.ctr_walk.specs.OneRecord.{HasRoomForOne};
-ghost use Rattle.ctr_pvs.specs.Slots.{SlotLiesAt};
-ghost use Rattle.ctr_page_turns.specs.Turns.{Turns};
+ghost use Rattle.ctr_extend.specs.record_effects_States.{area_in};
+ghost use Rattle.ctr_extend.specs.record_laws_Owed.{IsRoomFor, FirstVersion};
+ghost use Rattle.ctr_extend.specs.store_Store.{View, LeavesPage};
+ghost use Rattle.ctr_extend.specs.walk_OneRecord.{HasRoomForOne};
+ghost use Rattle.ctr_extend.specs.pvs_Slots.{SlotLiesAt};
+ghost use Rattle.ctr_extend.specs.page_turns_Turns.{Turns};
 ghost use Rattle.ctr_write.specs.declared.stages.Written.TheVariants.{Done};
 ghost use Rattle.ctr_write.specs.Stages.{LeavesItem, MovesWrite};
 ghost use Rattle.ctr_write.specs.Laying.{MayLay, LaysHead};
@@ -17,16 +17,14 @@ use crate::misfit::misfit;
 use crate::stages::Written;
 use ctr_base::Origin;
 use ctr_disk::{Disk, StoreFault};
-use ctr_heap::{first, put_slot, slot_lies};
-use ctr_page::{Place, Version};
-use ctr_page_turns::{a_record_acts, a_record_is_refused_by_the_disk_alone, a_turn_goes_on};
-use ctr_passed::owed_slots_are_laid_as_their_actions;
-use ctr_rec::Bytes;
-use ctr_store::Store;
-use ctr_types::Xid;
-use ctr_undamaged::{
-    a_free_slot_is_the_tables, a_place_of_a_table_fits, a_slot_is_put_at_its_place,
+use ctr_extend::{
+    Store, a_free_slot_is_the_tables, a_place_of_a_table_fits, a_record_acts,
+    a_record_is_refused_by_the_disk_alone, a_slot_is_put_at_its_place, a_turn_goes_on, first,
+    owed_slots_are_laid_as_their_actions, put_slot, slot_lies,
 };
+use ctr_page::{Place, Version};
+use ctr_rec::Bytes;
+use ctr_types::Xid;
 
 /// The same version once more, as a slot takes its head with it.
 pub(crate) fn again<'a>(head: &Version<'a>) -> Version<'a>

@@ -18,6 +18,7 @@ mod rewriting;
 mod stages;
 mod writing;
 
+pub use ctr_extend as extend;
 pub use laws::a_turn_of_a_write_is_kept;
 pub use stages::{Stage, Written};
 pub use writing::write;

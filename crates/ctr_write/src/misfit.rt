@@ -1,14 +1,13 @@
 // What stands on a page has no place for what is to be laid there.
 ghost use Rattle.std.specs.Prelude.{◌≡◌, false, Ok, OnOk, ⊤};
-ghost use Rattle.ctr_store.specs.Store.{View, LeavesPage};
-ghost use Rattle.ctr_walk.specs.Damage.{ReadsPages};
+ghost use Rattle.ctr_extend.specs.store_Store.{View, LeavesPage};
+ghost use Rattle.ctr_extend.specs.walk_Damage.{ReadsPages};
 
 use ctr_base::Origin;
 use ctr_disk::{Disk, StoreFault};
+use ctr_extend::{SearchFault, Store, tell};
 use ctr_page::{BadChain, BadPage};
 use ctr_rec::PageNo;
-use ctr_store::Store;
-use ctr_walk::{SearchFault, tell};
 
 /// What is to be laid on a page doesn't fit what stands there: damage of the page, which is told where it stands in the file of pages. In
 /// a state that may be a database's nobody calls this: the clause `refused` of each caller says that its turn tells no damage there.

@@ -4,10 +4,10 @@ ghost use Rattle.ctr_disk.specs.declared.fault.StoreFault.TheVariants.{Fault};
 ghost use Rattle.ctr_base.specs.Base.{WhereSound};
 ghost use Rattle.ctr_page.specs.Making.{IsVersion, IsSlot};
 ghost use Rattle.ctr_area.specs.Images.{is_committed_in};
-ghost use Rattle.ctr_walk.specs.OneRecord.{HasRoomForOne};
-ghost use Rattle.ctr_pvs.specs.Slots.{SlotLiesAt};
-ghost use Rattle.ctr_page_turns.specs.Turns.{Turns};
-ghost use Rattle.ctr_heap.specs.Ways.{IsWay, writing_by};
+ghost use Rattle.ctr_extend.specs.walk_OneRecord.{HasRoomForOne};
+ghost use Rattle.ctr_extend.specs.pvs_Slots.{SlotLiesAt};
+ghost use Rattle.ctr_extend.specs.page_turns_Turns.{Turns};
+ghost use Rattle.ctr_extend.specs.heap_Ways.{IsWay, writing_by};
 ghost use Rattle.ctr_write.specs.declared.stages.Written.TheVariants.{Done};
 ghost use Rattle.ctr_write.specs.Stages.{LeavesItem, MovesWrite};
 ghost use Rattle.ctr_write.specs.Laying.{MayLay, LaysHead, IsReadyFor};
@@ -16,13 +16,13 @@ use crate::laying::again;
 use crate::stages::Written;
 use ctr_base::Origin;
 use ctr_disk::{Disk, StoreFault};
-use ctr_heap::{Way, a_way_fits_its_slot, put_slot, replaced, written};
+use ctr_extend::{
+    Store, Way, a_place_of_a_table_fits, a_record_acts, a_record_is_refused_by_the_disk_alone,
+    a_slot_is_put_at_its_place, a_turn_goes_on, a_way_fits_its_slot,
+    owed_slots_are_laid_as_their_actions, put_slot, replaced, written,
+};
 use ctr_page::{Place, RowSlot, Version};
-use ctr_page_turns::{a_record_acts, a_record_is_refused_by_the_disk_alone, a_turn_goes_on};
-use ctr_passed::owed_slots_are_laid_as_their_actions;
-use ctr_store::Store;
 use ctr_types::{Fate, Xid};
-use ctr_undamaged::{a_place_of_a_table_fits, a_slot_is_put_at_its_place};
 
 /// Whether a transaction is committed; 0 is nobody's number.
 pub(crate) fn is_committed<D: Disk, O: Origin>(store: &Store<D, O>, x: Xid) -> bool

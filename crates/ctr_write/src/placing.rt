@@ -3,9 +3,9 @@ ghost use Rattle.std.specs.Prelude.{◌≡◌, ◌≢◌, ◌<◌, ℕ, length, 
 ghost use Rattle.ctr_disk.specs.declared.fault.StoreFault.TheVariants.{Fault};
 ghost use Rattle.ctr_base.specs.Base.{WhereSound};
 ghost use Rattle.ctr_page.specs.Making.{IsVersion};
-ghost use Rattle.ctr_record_effects.specs.States.{area_in};
-ghost use Rattle.ctr_walk.specs.OneRecord.{HasRoomForOne};
-ghost use Rattle.ctr_page_turns.specs.Turns.{Turns};
+ghost use Rattle.ctr_extend.specs.record_effects_States.{area_in};
+ghost use Rattle.ctr_extend.specs.walk_OneRecord.{HasRoomForOne};
+ghost use Rattle.ctr_extend.specs.page_turns_Turns.{Turns};
 ghost use Rattle.ctr_write.specs.Stages.{IsCountedWrite, LeavesItem, MovesWrite};
 ghost use Rattle.ctr_write.specs.Steps.{MayPlace, EndsPlacing};
 
@@ -14,13 +14,11 @@ use crate::laying::lay_first;
 use crate::stages::Written;
 use ctr_base::Origin;
 use ctr_disk::{Disk, StoreFault};
-use ctr_extend::OnWay;
-use ctr_heap::free_slot;
+use ctr_extend::{
+    OnWay, Store, a_bucket_search_meets_no_damage, a_turn_goes_on, free_slot, room_is_still_there,
+};
 use ctr_page::{Chain, Place, Version, bucket_of};
-use ctr_page_turns::{a_turn_goes_on, room_is_still_there};
-use ctr_store::Store;
 use ctr_types::Xid;
-use ctr_undamaged::a_bucket_search_meets_no_damage;
 
 /// A row that has no slot is written in a free one of its key's bucket; where none is free, a page more is wanted there.
 pub(crate) fn place_first<D: Disk, O: Origin>(

@@ -5,10 +5,10 @@ ghost use Rattle.ctr_base.specs.Base.{WhereSound};
 ghost use Rattle.ctr_page.specs.declared.rows.Place.{Place as PlaceOf};
 ghost use Rattle.ctr_page.specs.Making.{IsVersion, IsSlot, IsEntry};
 ghost use Rattle.ctr_area.specs.Areas.{RowVersion};
-ghost use Rattle.ctr_walk.specs.OneRecord.{HasRoomForOne};
-ghost use Rattle.ctr_pvs.specs.Slots.{SlotLiesAt};
-ghost use Rattle.ctr_pvs.specs.Writing.{entry_width};
-ghost use Rattle.ctr_page_turns.specs.Turns.{Turns};
+ghost use Rattle.ctr_extend.specs.walk_OneRecord.{HasRoomForOne};
+ghost use Rattle.ctr_extend.specs.pvs_Slots.{SlotLiesAt};
+ghost use Rattle.ctr_extend.specs.pvs_Writing.{entry_width};
+ghost use Rattle.ctr_extend.specs.page_turns_Turns.{Turns};
 ghost use Rattle.ctr_write.specs.Stages.{IsCountedWrite, LeavesItem, MovesWrite};
 ghost use Rattle.ctr_write.specs.Keeping.{off};
 ghost use Rattle.ctr_write.specs.Steps.{MayKeepFirst, EndsKeeping, MayWriteOver, EndsOver};
@@ -19,16 +19,13 @@ use crate::over::{is_committed, lay_over};
 use crate::stages::Written;
 use ctr_base::Origin;
 use ctr_disk::{Disk, StoreFault};
-use ctr_extend::OnWay;
-use ctr_heap::{to_keep, way_of};
-use ctr_page::{Chain, Place, RowSlot, Version, VersionEntry};
-use ctr_page_turns::{a_turn_goes_on, room_is_still_there};
-use ctr_pvs::find_free_entry;
-use ctr_store::Store;
-use ctr_types::Xid;
-use ctr_undamaged::{
-    a_place_of_a_table_fits, a_search_for_room_meets_no_damage, a_slot_is_put_at_its_place,
+use ctr_extend::{
+    OnWay, Store, a_place_of_a_table_fits, a_search_for_room_meets_no_damage,
+    a_slot_is_put_at_its_place, a_turn_goes_on, find_free_entry, room_is_still_there, to_keep,
+    way_of,
 };
+use ctr_page::{Chain, Place, RowSlot, Version, VersionEntry};
+use ctr_types::Xid;
 
 /// The place that names none.
 const NOWHERE: Place = Place { page: 0, slot: 0 };

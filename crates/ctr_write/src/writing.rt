@@ -3,10 +3,10 @@ ghost use Rattle.std.specs.Prelude.{◌≡◌, ◌<◌, ℤ, IfOk, IfErr, length
 ghost use Rattle.ctr_disk.specs.declared.fault.StoreFault.TheVariants.{Fault};
 ghost use Rattle.ctr_base.specs.Base.{WhereSound};
 ghost use Rattle.ctr_page.specs.Making.{IsVersion};
-ghost use Rattle.ctr_record_effects.specs.States.{area_in};
-ghost use Rattle.ctr_record_laws.specs.Owed.{IsSlotOfKey};
-ghost use Rattle.ctr_walk.specs.OneRecord.{HasRoomForOne};
-ghost use Rattle.ctr_page_turns.specs.Turns.{Turns};
+ghost use Rattle.ctr_extend.specs.record_effects_States.{area_in};
+ghost use Rattle.ctr_extend.specs.record_laws_Owed.{IsSlotOfKey};
+ghost use Rattle.ctr_extend.specs.walk_OneRecord.{HasRoomForOne};
+ghost use Rattle.ctr_extend.specs.page_turns_Turns.{Turns};
 ghost use Rattle.ctr_write.specs.Stages.{IsCountedStage, stage_items, IsCountedWrite, LeavesItem, MovesWrite};
 ghost use Rattle.ctr_write.specs.Steps.{MayLook, EndsOver, EndsLooking, MayTakeTurn, EndsWrite};
 
@@ -18,14 +18,12 @@ use crate::rewriting::write_read;
 use crate::stages::{Stage, Written};
 use ctr_base::Origin;
 use ctr_disk::{Disk, StoreFault};
-use ctr_heap::find;
-use ctr_page::{Place, Version};
-use ctr_page_turns::{a_turn_goes_on, room_is_still_there};
-use ctr_store::Store;
-use ctr_types::Xid;
-use ctr_undamaged::{
-    a_bucket_search_meets_no_damage, a_place_of_a_table_fits, a_slot_is_put_at_its_place,
+use ctr_extend::{
+    Store, a_bucket_search_meets_no_damage, a_place_of_a_table_fits, a_slot_is_put_at_its_place,
+    a_turn_goes_on, find, room_is_still_there,
 };
+use ctr_page::{Place, Version};
+use ctr_types::Xid;
 
 // The slot at a place is read and written over.
 fn write_over<D: Disk, O: Origin>(

@@ -4,10 +4,10 @@ use Rattle.ctr_page.specs.declared.checks.Chain.{Chain}
 use Rattle.ctr_area.specs.Areas.{Title}
 use Rattle.ctr_area.specs.Sound.{IsAmong}
 use Rattle.ctr_area.proofs.Buckets.{each_of}
-use Rattle.ctr_actions.specs.Facts.{Fact, IsOpen, HasPage, HasNoPageBut, HasBlank, HasSlot, HasCopy, HasTable}
-use Rattle.ctr_kept.specs.Carried.{IsOfEntry}
-use Rattle.ctr_kept.specs.Tables.{IsTable, AreTables}
-use Rattle.ctr_kept.proofs.Tables.{among_last, by_parts}
+use Rattle.ctr_looks.specs.actions_Facts.{Fact, IsOpen, HasPage, HasNoPageBut, HasBlank, HasSlot, HasCopy, HasTable}
+use Rattle.ctr_looks.specs.kept_Carried.{IsOfEntry}
+use Rattle.ctr_looks.specs.kept_Tables.{IsTable, AreTables}
+use Rattle.ctr_looks.proofs.kept_Tables.{among_last, by_parts}
 use Rattle.ctr_looks.specs.ctr_extend.declared.ways.OnWay.{OnWay}
 use Rattle.ctr_looks.specs.ctr_extend.declared.ways.OnWay.TheVariants.{Wanted, Taken, Made}
 use Rattle.ctr_looks.specs.ctr_extend.Keeping.{facts_on_way}

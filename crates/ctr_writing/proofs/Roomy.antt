@@ -2,9 +2,9 @@
 use Rattle.std.proofs.Common.{◌≡◌, ℕ, ◌+◌, ◌<◌, ◌≤◌, Bool, true, false, cond, Some, refl, sym, ◌∙◌, ap, subst, arith}
 use Rattle.ctr_meta.specs.Kept.{RoomLeft, TablesKept}
 use Rattle.ctr_versions.proofs.Keys.{known}
-use Rattle.ctr_txn.specs.Held.{TxnHeld, TxnsHeld, txn_of}
-use Rattle.ctr_txn.specs.Rooms.{GetsBack, HasItemRoom, SpendsOne, StaysRoom, item_kept, items_kept}
-use Rattle.ctr_txn.specs.Steps.{txn_room}
+use Rattle.ctr_looks.specs.txn_Held.{TxnHeld, TxnsHeld, txn_of}
+use Rattle.ctr_looks.specs.txn_Rooms.{GetsBack, HasItemRoom, SpendsOne, StaysRoom, item_kept, items_kept}
+use Rattle.ctr_looks.specs.txn_Steps.{txn_room}
 use Rattle.ctr_looks.specs.ctr_extend.declared.ways.OnWay.TheVariants.{Wanted, Taken, Made}
 use Rattle.ctr_looks.specs.ctr_write.declared.stages.Stage.{Stage}
 use Rattle.ctr_looks.specs.ctr_write.declared.stages.Stage.TheVariants.{Looking, Extending, Kept}

@@ -27,16 +27,16 @@ use Rattle.ctr_area.specs.Sound.{IsAmong}
 use Rattle.ctr_redo.specs.States.{State as Stored}
 use Rattle.ctr_record_effects.specs.States.{area_in}
 use Rattle.ctr_record_laws.specs.Owed.{IsSlotOfKey}
-use Rattle.ctr_actions.specs.Facts.{Fact, HasSlot, HasTable}
+use Rattle.ctr_looks.specs.actions_Facts.{Fact, HasSlot, HasTable}
 use Rattle.ctr_store.specs.Store.{View}
 use Rattle.ctr_locks.specs.Held.{session_locks}
 use Rattle.ctr_locks.specs.Shows.{ShowsKeyLocks}
-use Rattle.ctr_kept.specs.Turns.{Start, InTransaction, MayCome, carrying, entry_of, state_now, telling}
-use Rattle.ctr_kept.specs.Walk.{Mind, with_facts}
-use Rattle.ctr_kept.proofs.Tables.{among_first}
-use Rattle.ctr_stops.specs.World.{KeepsWorld}
-use Rattle.ctr_page_turns.specs.Turns.{RestsBehind}
-use Rattle.ctr_txn.specs.Held.{IsOneOfEight, TxnsHeld, number_drawn, run_of}
+use Rattle.ctr_looks.specs.kept_Turns.{Start, InTransaction, MayCome, carrying, entry_of, state_now, telling}
+use Rattle.ctr_looks.specs.kept_Walk.{Mind, with_facts}
+use Rattle.ctr_looks.proofs.kept_Tables.{among_first}
+use Rattle.ctr_looks.specs.stops_World.{KeepsWorld}
+use Rattle.ctr_looks.specs.page_turns_Turns.{RestsBehind}
+use Rattle.ctr_looks.specs.txn_Held.{IsOneOfEight, TxnsHeld, number_drawn, run_of}
 use Rattle.ctr_page.specs.declared.checks.Chain.{Chain}
 use Rattle.ctr_page.specs.declared.rows.Place.{Place}
 use Rattle.ctr_page.specs.declared.rows.Version.{Version}

@@ -17,13 +17,13 @@ use Rattle.ctr_model.specs.Tape.{Allowed, acts_of}
 use Rattle.ctr_versions.specs.Engine.{SessionHeld, IsCalm}
 use Rattle.ctr_versions.proofs.Keys.{known, some_is}
 use Rattle.ctr_legal.specs.Ready.{MayWrite}
-use Rattle.ctr_actions.specs.Sites.{site_of}
-use Rattle.ctr_paged.specs.Paged.{Run}
+use Rattle.ctr_looks.specs.actions_Sites.{site_of}
+use Rattle.ctr_looks.specs.paged_Paged.{Run}
 use Rattle.ctr_store.specs.Store.{View}
-use Rattle.ctr_kept.specs.Turns.{Start, InTransaction, MayCome, state_now}
-use Rattle.ctr_kept.specs.Walk.{Mind}
-use Rattle.ctr_kept.proofs.Walking.{keeps_reached}
-use Rattle.ctr_txn.specs.Held.{IsOneOfEight, TxnHeld, me_in, number_drawn, txn_of}
+use Rattle.ctr_looks.specs.kept_Turns.{Start, InTransaction, MayCome, state_now}
+use Rattle.ctr_looks.specs.kept_Walk.{Mind}
+use Rattle.ctr_looks.proofs.kept_Walking.{keeps_reached}
+use Rattle.ctr_looks.specs.txn_Held.{IsOneOfEight, TxnHeld, me_in, number_drawn, txn_of}
 use Rattle.ctr_looks.proofs.ctr_told.Acting.{is_ready}
 use Rattle.ctr_looks.specs.ctr_session_world.Told.{IsNextOf}
 use Rattle.ctr_looks.specs.ctr_session_world.World.{SessionsHeld}

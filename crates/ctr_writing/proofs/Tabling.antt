@@ -23,23 +23,23 @@ use Rattle.ctr_area.specs.Areas.{Title}
 use Rattle.ctr_area.specs.Changes.{new_title}
 use Rattle.ctr_area.specs.Sound.{IsAmong}
 use Rattle.ctr_record_effects.specs.States.{area_in}
-use Rattle.ctr_actions.specs.Actions.{Drops}
-use Rattle.ctr_actions.specs.Facts.{Fact, IsOpen, HasPage, HasNoPageBut, HasBlank, HasSlot, HasCopy, HasTable}
-use Rattle.ctr_actions.specs.Sites.{Site, site_of}
-use Rattle.ctr_page_turns.specs.Acts.{ActsBy}
-use Rattle.ctr_page_turns.specs.Turns.{RestsBehind}
+use Rattle.ctr_looks.specs.actions_Actions.{Drops}
+use Rattle.ctr_looks.specs.actions_Facts.{Fact, IsOpen, HasPage, HasNoPageBut, HasBlank, HasSlot, HasCopy, HasTable}
+use Rattle.ctr_looks.specs.actions_Sites.{Site, site_of}
+use Rattle.ctr_looks.specs.page_turns_Acts.{ActsBy}
+use Rattle.ctr_looks.specs.page_turns_Turns.{RestsBehind}
 use Rattle.ctr_store.specs.Store.{View}
 use Rattle.ctr_names.specs.Search.{IsEntryFound}
-use Rattle.ctr_views.specs.Viewing.{Viewer, sees_by}
-use Rattle.ctr_views.proofs.Looking.{as_found}
+use Rattle.ctr_looks.specs.views_Viewing.{Viewer, sees_by}
+use Rattle.ctr_looks.proofs.views_Looking.{as_found}
 use Rattle.ctr_locks.specs.Held.{LocksOfSession, held_by_session, locks_key, session_locks}
 use Rattle.ctr_locks.specs.Shows.{IsTheSame, ShowsKeyLocks}
-use Rattle.ctr_kept.specs.Tables.{IsTable, AreTables}
-use Rattle.ctr_kept.specs.Turns.{Start, InTransaction, MayCome, carrying, scene_now, state_now, telling}
-use Rattle.ctr_kept.specs.Walk.{Mind, with_facts}
-use Rattle.ctr_kept.proofs.Walking.{keeps_reached}
-use Rattle.ctr_stops.specs.World.{KeepsWorld}
-use Rattle.ctr_txn.specs.Held.{IsOneOfEight, TxnsHeld, number_drawn, run_of}
+use Rattle.ctr_looks.specs.kept_Tables.{IsTable, AreTables}
+use Rattle.ctr_looks.specs.kept_Turns.{Start, InTransaction, MayCome, carrying, scene_now, state_now, telling}
+use Rattle.ctr_looks.specs.kept_Walk.{Mind, with_facts}
+use Rattle.ctr_looks.proofs.kept_Walking.{keeps_reached}
+use Rattle.ctr_looks.specs.stops_World.{KeepsWorld}
+use Rattle.ctr_looks.specs.txn_Held.{IsOneOfEight, TxnsHeld, number_drawn, run_of}
 use Rattle.ctr_looks.specs.ctr_ddl.Tables.{IsCatalogFull, IsMadeAt}
 use Rattle.ctr_looks.specs.ctr_told.Tables.{IsAtTable, FindsIt, AreOthers}
 use Rattle.ctr_looks.specs.ctr_told.Turning.{facts_idle}

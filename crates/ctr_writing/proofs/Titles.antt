@@ -6,9 +6,9 @@ use Rattle.ctr_page.specs.declared.rows.Place.{Place}
 use Rattle.ctr_page.specs.Places.{bucket_of}
 use Rattle.ctr_record_effects.specs.States.{area_in}
 use Rattle.ctr_redo.specs.States.{State}
-use Rattle.ctr_actions.specs.Actions.{Action, site_after}
-use Rattle.ctr_actions.specs.Sites.{Site, site_of}
-use Rattle.ctr_page_turns.specs.Acts.{ActsBy}
+use Rattle.ctr_looks.specs.actions_Actions.{Action, site_after}
+use Rattle.ctr_looks.specs.actions_Sites.{Site, site_of}
+use Rattle.ctr_looks.specs.page_turns_Acts.{ActsBy}
 use Rattle.ctr_looks.specs.ctr_extend.declared.ways.OnWay.{OnWay}
 use Rattle.ctr_looks.specs.ctr_extend.declared.ways.OnWay.TheVariants.{Wanted, Taken, Made}
 use Rattle.ctr_looks.specs.ctr_extend.declared.ways.Extended.{Extended}

@@ -4,7 +4,7 @@ use Rattle.ctr_disk.specs.declared.disk.Disk.{Ghosts}
 use Rattle.ctr_disk.specs.Image.{Image}
 use Rattle.ctr_disk.specs.declared.fault.StoreFault.{StoreFault}
 use Rattle.ctr_store.specs.Store.{View}
-use Rattle.ctr_page_turns.specs.Turns.{Turns}
+use Rattle.ctr_looks.specs.page_turns_Turns.{Turns}
 use Rattle.ctr_looks.specs.ctr_session_world.Ready.{LeavesDisk}
 use Rattle.ctr_looks.proofs.ctr_session_world.Disks.{disk_done, disk_failed, disk_turn}
 

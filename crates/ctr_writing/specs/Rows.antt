@@ -4,13 +4,13 @@ use Rattle.ctr_disk.specs.declared.disk.Disk.{Ghosts}
 use Rattle.ctr_types.specs.declared.statement.Statement.{Statement}
 use Rattle.ctr_types.specs.declared.tape.Act.TheVariants as act
 use Rattle.ctr_area.specs.Areas.{Title}
-use Rattle.ctr_actions.specs.Facts.{Fact}
+use Rattle.ctr_looks.specs.actions_Facts.{Fact}
 use Rattle.ctr_store.specs.Store.{View}
-use Rattle.ctr_kept.specs.Tables.{AreTables}
-use Rattle.ctr_kept.specs.Walk.{Mind}
-use Rattle.ctr_kept.specs.Turns.{Start}
-use Rattle.ctr_txn.specs.Held.{TxnHeld, TxnsHeld, txn_of}
-use Rattle.ctr_txn.specs.Rooms.{item_kept}
+use Rattle.ctr_looks.specs.kept_Tables.{AreTables}
+use Rattle.ctr_looks.specs.kept_Walk.{Mind}
+use Rattle.ctr_looks.specs.kept_Turns.{Start}
+use Rattle.ctr_looks.specs.txn_Held.{TxnHeld, TxnsHeld, txn_of}
+use Rattle.ctr_looks.specs.txn_Rooms.{item_kept}
 use Rattle.ctr_looks.specs.ctr_extend.declared.ways.OnWay.TheVariants.{Wanted, Taken, Made}
 use Rattle.ctr_looks.specs.ctr_write.declared.stages.Stage.{Stage}
 use Rattle.ctr_looks.specs.ctr_write.declared.stages.Stage.TheVariants.{Looking, Extending, Kept}

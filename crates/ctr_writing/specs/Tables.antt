@@ -6,8 +6,8 @@ use Rattle.ctr_types.specs.declared.statement.Statement.TheVariants as st
 use Rattle.ctr_types.specs.declared.tape.Act.TheVariants as act
 use Rattle.ctr_types.specs.declared.tape.Reply.{Reply}
 use Rattle.ctr_value.specs.Columns.{ColumnsFit}
-use Rattle.ctr_kept.specs.Turns.{Start}
-use Rattle.ctr_kept.specs.Walk.{Mind}
+use Rattle.ctr_looks.specs.kept_Turns.{Start}
+use Rattle.ctr_looks.specs.kept_Walk.{Mind}
 use Rattle.ctr_store.specs.Store.{View}
 use Rattle.ctr_looks.specs.ctr_session_world.World.{SessionsHeld}
 use Rattle.ctr_looks.specs.ctr_session_world.Told.{CountsOnTables, IsNextOf, IsTold}

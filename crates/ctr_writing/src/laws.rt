@@ -11,14 +11,14 @@ ghost use Rattle.ctr_model.specs.declared.limits.TheConstants.{CATALOG_ENTRIES, 
 ghost use Rattle.ctr_model.specs.Laws.{IsSoundState, OthersOnly};
 ghost use Rattle.ctr_model.specs.Refusals.{key_written};
 ghost use Rattle.ctr_store.specs.Store.{View};
-ghost use Rattle.ctr_kept.specs.Walk.{Mind};
-ghost use Rattle.ctr_kept.specs.Turns.{Start, state_now};
-ghost use Rattle.ctr_stops.specs.World.{KeepsWorld};
-ghost use Rattle.ctr_actions.specs.Actions.{Drops};
-ghost use Rattle.ctr_page_turns.specs.Acts.{ActsBy};
-ghost use Rattle.ctr_page_turns.specs.Turns.{LogsAtRest, RestsBehind};
+ghost use Rattle.ctr_looks.specs.kept_Walk.{Mind};
+ghost use Rattle.ctr_looks.specs.kept_Turns.{Start, state_now};
+ghost use Rattle.ctr_looks.specs.stops_World.{KeepsWorld};
+ghost use Rattle.ctr_looks.specs.actions_Actions.{Drops};
+ghost use Rattle.ctr_looks.specs.page_turns_Acts.{ActsBy};
+ghost use Rattle.ctr_looks.specs.page_turns_Turns.{LogsAtRest, RestsBehind};
 ghost use Rattle.ctr_looks.specs.ctr_ddl.Tables.{IsCatalogFull, IsMadeAt, MayDrop, MayMake};
-ghost use Rattle.ctr_txn.specs.Held.{TxnsHeld, run_of, number_drawn, IsOneOfEight};
+ghost use Rattle.ctr_looks.specs.txn_Held.{TxnsHeld, run_of, number_drawn, IsOneOfEight};
 ghost use Rattle.ctr_looks.specs.ctr_write.declared.stages.Stage.{Stage as At};
 ghost use Rattle.ctr_looks.specs.ctr_write.declared.stages.Stage.TheVariants.{Looking};
 ghost use Rattle.ctr_looks.specs.ctr_write.declared.stages.Written.TheVariants as written;
@@ -34,7 +34,6 @@ ghost use Rattle.ctr_writing.specs.Rows.{IsAtRow, TurnOfRow, IsBetweenTurns, wis
 ghost use Rattle.ctr_writing.specs.Tables.{IsAtTableWrite, TurnOfTable};
 
 use ctr_disk::Disk;
-use ctr_kept::who_rolls_back_is_at_its_rollback;
 use ctr_looks::told::{
     a_refusal_is_told, a_row_that_is_written_is_told, a_session_may_count_on_what_holds,
     a_table_may_be_made_or_dropped, a_table_that_is_made_or_dropped_is_told,
@@ -42,8 +41,8 @@ use ctr_looks::told::{
 };
 use ctr_looks::wishes::what_is_prepared_stays_the_models;
 use ctr_looks::writes::a_turn_of_a_write_is_kept;
+use ctr_looks::{the_run_is_of_the_sessions, who_rolls_back_is_at_its_rollback};
 use ctr_model::snapshots_stay;
-use ctr_txn::the_run_is_of_the_sessions;
 
 /// What a session counts on of its row's Write stays, whatever others do between two of its turns.
 pub fn what_a_write_counts_on_stays()

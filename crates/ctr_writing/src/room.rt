@@ -2,13 +2,13 @@
 ghost use Rattle.std.specs.Prelude.{◌≡◌, ◌<◌, ◌==◌, ℕ, false, if◌then◌else◌};
 ghost use Rattle.ctr_meta.specs.Kept.{TablesKept};
 ghost use Rattle.ctr_store.specs.Store.{View};
-ghost use Rattle.ctr_walk.specs.OneRecord.{HasRoomForOne};
-ghost use Rattle.ctr_txn.specs.Held.{TxnsHeld, IsOneOfEight, run_of, txn_of};
-ghost use Rattle.ctr_txn.specs.Rooms.{HasItemRoom};
+ghost use Rattle.ctr_looks.specs.walk_OneRecord.{HasRoomForOne};
+ghost use Rattle.ctr_looks.specs.txn_Held.{TxnsHeld, IsOneOfEight, run_of, txn_of};
+ghost use Rattle.ctr_looks.specs.txn_Rooms.{HasItemRoom};
 ghost use Rattle.ctr_looks.specs.ctr_write.declared.stages.Stage.{Stage as At};
 ghost use Rattle.ctr_looks.specs.ctr_write.declared.stages.Written.TheVariants.{On};
 ghost use Rattle.ctr_looks.specs.ctr_write.Stages.{LeavesItem, stage_items};
-ghost use Rattle.ctr_page_turns.specs.Rooms.{AddsItems};
+ghost use Rattle.ctr_looks.specs.page_turns_Rooms.{AddsItems};
 ghost use Rattle.ctr_looks.specs.ctr_session_world.Ready.{StaysUnasked};
 ghost use Rattle.ctr_looks.specs.Granting.{HasItem};
 ghost use Rattle.ctr_writing.specs.Rows.{HasStageRoom};
@@ -16,7 +16,7 @@ ghost use Rattle.ctr_writing.specs.Rows.{HasStageRoom};
 use ctr_disk::Disk;
 use ctr_looks::extend::OnWay;
 use ctr_looks::writes::Stage;
-use ctr_txn::{
+use ctr_looks::{
     Txns, room_that_is_kept_is_there, the_room_of_all_stays, the_run_is_of_the_sessions,
 };
 

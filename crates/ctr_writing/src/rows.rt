@@ -4,7 +4,7 @@ ghost use Rattle.ctr_disk.specs.declared.fault.StoreFault.TheVariants.{Fault};
 ghost use Rattle.ctr_types.specs.declared.statement.Statement.{Statement as Said};
 ghost use Rattle.ctr_model.specs.Refusals.{key_written};
 ghost use Rattle.ctr_base.specs.Base.{WhereSound};
-ghost use Rattle.ctr_kept.specs.Turns.{Start};
+ghost use Rattle.ctr_looks.specs.kept_Turns.{Start};
 ghost use Rattle.ctr_locks.specs.Held.{LocksOfSession};
 ghost use Rattle.ctr_looks.specs.ctr_wishes.declared.making.Prepared.TheVariants.{Lays};
 ghost use Rattle.ctr_looks.specs.ctr_session_world.Ready.{LeavesOver, MayTurn, LeavesDisk};
@@ -18,11 +18,10 @@ use ctr_disk::{Disk, StoreFault};
 use ctr_looks::told::{a_write_without_a_record, growth_behind_pages_keeps_a_world};
 use ctr_looks::wishes::{Head, Prepared};
 use ctr_looks::writes::{Stage, Written, write};
+use ctr_looks::{Txns, a_turn_goes_or_counts_a_fault, a_turn_is_told_by_its_number};
 use ctr_model::MOST_PAGES;
-use ctr_page_turns::{a_turn_goes_or_counts_a_fault, a_turn_is_told_by_its_number};
 use ctr_statement::key_written;
 use ctr_store::Store;
-use ctr_txn::Txns;
 use ctr_types::{Refusal, Reply, Statement};
 
 /// What a turn of the Write of a row answers.

@@ -5,7 +5,7 @@ ghost use Rattle.ctr_types.specs.declared.statement.Statement.{Statement as Said
 ghost use Rattle.ctr_types.specs.declared.statement.Statement.TheVariants as st;
 ghost use Rattle.ctr_value.specs.Columns.{ColumnsFit};
 ghost use Rattle.ctr_base.specs.Base.{WhereSound};
-ghost use Rattle.ctr_kept.specs.Turns.{Start};
+ghost use Rattle.ctr_looks.specs.kept_Turns.{Start};
 ghost use Rattle.ctr_locks.specs.Held.{LocksOfSession};
 ghost use Rattle.ctr_looks.specs.ctr_session_world.Ready.{LeavesOver, MayTurn, LeavesDisk};
 ghost use Rattle.ctr_looks.specs.ctr_session_world.Told.{IsNextOf};
@@ -18,12 +18,10 @@ use crate::laws::{a_table_may_be_written, a_turn_of_a_table_is_told};
 use crate::room::{spend_room, there_is_room_for_an_item};
 use ctr_base::Origin;
 use ctr_disk::{Disk, StoreFault};
-use ctr_looks::TableWrite;
 use ctr_looks::ddl::{Made, drop_live, make_table};
+use ctr_looks::{TableWrite, Txns, a_turn_goes_or_counts_a_fault, a_turn_is_told_by_its_number};
 use ctr_model::CATALOG_ENTRIES;
-use ctr_page_turns::{a_turn_goes_or_counts_a_fault, a_turn_is_told_by_its_number};
 use ctr_store::Store;
-use ctr_txn::Txns;
 use ctr_types::{Name, Refusal, Reply, Schema, Statement};
 
 // A table is made.

@@ -1,6 +1,6 @@
 use Rattle.std.proofs.Common.{◌≡◌, ◌≤◌, ℕ, refl}
-use Rattle.ctr_area.specs.Chains.{pages_bound}
-use Rattle.ctr_area.specs.Images.{is_committed_in, versions_in}
+use Rattle.ctr_record_laws.specs.area_Chains.{pages_bound}
+use Rattle.ctr_record_laws.specs.area_Images.{is_committed_in, versions_in}
 use Rattle.ctr_record_laws.specs.Bounds.{IsInBounds}
 use Rattle.ctr_actions.specs.Sites.{Site, IsSoundSite, IsSameEngine}
 use Rattle.ctr_actions.specs.Actions.{Action, Begins, Allocates, Formats, Links, LinksOlder, Keeps, Writes, Creates, Drops, Commits, Frees, Uncreates, Undrops, Aborts, Reclaims, Reverts, Trims, Cuts, FreesOlder, MakesDead, Unlinks, UnlinksOlder, FreesEntry, Forgets, Checkpoints, Owes, site_after, IsQuietAction}

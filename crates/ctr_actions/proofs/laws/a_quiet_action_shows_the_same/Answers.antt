@@ -1,5 +1,5 @@
 use Rattle.std.proofs.Common.{◌≤◌, ℕ, true, false, refl}
-use Rattle.ctr_area.specs.Chains.{pages_bound}
+use Rattle.ctr_record_laws.specs.area_Chains.{pages_bound}
 use Rattle.ctr_record_laws.specs.Bounds.{IsInBounds}
 use Rattle.ctr_record_laws.specs.Shows.{ShowTheSame}
 use Rattle.ctr_actions.specs.Sites.{Site, IsSoundSite}

@@ -1,14 +1,14 @@
 use Rattle.std.proofs.Common.{◌≡◌, ℕ, true, Ok, refl, sym, ap, subst}
 use Rattle.std.proofs.lemmas.Bool.{eq-eqb}
-use Rattle.ctr_meta.specs.Effects.{effect, one_head_less, one_head_more}
+use Rattle.ctr_record_laws.specs.meta_Effects.{effect, one_head_less, one_head_more}
 use Rattle.ctr_record_laws.specs.Owed.{loses_head}
-use Rattle.ctr_meta.specs.Items.{is_wanted}
-use Rattle.ctr_meta.specs.Needs.{needs, there, row_needs}
-use Rattle.ctr_meta.specs.Tables.{is_in}
-use Rattle.ctr_meta.specs.declared.items.Wanted.{Wanted}
-use Rattle.ctr_meta.specs.declared.items.Wanted.TheVariants.{Allocation, OfPage, Creation, Dropping}
-use Rattle.ctr_rec.specs.declared.record.Overlay.{Overlay}
-use Rattle.ctr_rec.specs.declared.record.SlogItem.TheVariants.{FreeOf, CreateOf, DropOf}
+use Rattle.ctr_record_laws.specs.meta_Items.{is_wanted}
+use Rattle.ctr_record_laws.specs.meta_Needs.{needs, there, row_needs}
+use Rattle.ctr_record_laws.specs.meta_Tables.{is_in}
+use Rattle.ctr_record_laws.specs.meta_Wanted.{Wanted}
+use Rattle.ctr_record_laws.specs.meta_Wanted.TheVariants.{Allocation, OfPage, Creation, Dropping}
+use Rattle.ctr_record_effects.specs.rec_Overlay.{Overlay}
+use Rattle.ctr_record_laws.specs.rec_SlogItem.TheVariants.{FreeOf, CreateOf, DropOf}
 use Rattle.ctr_record_laws.proofs.Items.{any_there}
 use Rattle.ctr_record_laws.specs.Bounds.{IsInBounds}
 use Rattle.std.specs.List.{list_any}

@@ -1,8 +1,8 @@
 use Rattle.std.proofs.Common.{◌≡◌, ◌≤◌, ℕ, refl}
 use Rattle.std.proofs.lemmas.Bool.{eq-eqb}
-use Rattle.ctr_area.specs.Chains.{pages_bound}
-use Rattle.ctr_meta.specs.declared.items.Wanted.TheVariants.{OfPage}
-use Rattle.ctr_rec.specs.declared.record.SlogItem.TheVariants.{FreeOf}
+use Rattle.ctr_record_laws.specs.area_Chains.{pages_bound}
+use Rattle.ctr_record_laws.specs.meta_Wanted.TheVariants.{OfPage}
+use Rattle.ctr_record_laws.specs.rec_SlogItem.TheVariants.{FreeOf}
 use Rattle.ctr_record_laws.proofs.Items.{any_there}
 use Rattle.ctr_record_laws.specs.Bounds.{IsInBounds}
 use Rattle.ctr_actions.specs.Sites.{Site, IsSoundSite}

@@ -1,9 +1,9 @@
 use Rattle.std.proofs.Common.{◌⊎◌, ⊎_elim, ◌≢◌, ◌≤◌, ℕ, true, false, refl, sym, ◌∙◌}
-use Rattle.ctr_area.specs.Areas.{Slot, RowVersion}
-use Rattle.ctr_area.specs.Chains.{pages_bound}
-use Rattle.ctr_area.specs.Changes.{with_bucket}
-use Rattle.ctr_area.specs.Sound.{IsUsedSlot}
-use Rattle.ctr_page.specs.declared.rows.Place.{Place}
+use Rattle.ctr_record_laws.specs.area_Areas.{Slot, RowVersion}
+use Rattle.ctr_record_laws.specs.area_Chains.{pages_bound}
+use Rattle.ctr_record_laws.specs.area_Changes.{with_bucket}
+use Rattle.ctr_record_laws.specs.area_Sound.{IsUsedSlot}
+use Rattle.ctr_record_laws.specs.page_Place.{Place}
 use Rattle.ctr_record_laws.specs.Bounds.{IsInBounds}
 use Rattle.ctr_record_laws.specs.Owed.{slot_by, reverted_slot, trimmed_slot}
 use Rattle.ctr_record_laws.specs.Loose.{IsSpareFor, IsSameSlot}

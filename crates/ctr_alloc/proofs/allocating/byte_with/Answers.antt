@@ -1,5 +1,5 @@
 use Rattle.std.proofs.Common.{◌/◌, ◌%◌, List, Bool, ℕ, length, slice_index, sym, ap, ◌∙◌, subst}
-use Rattle.ctr_area.specs.Changes.{IsBitSet}
+use Rattle.ctr_actions.specs.area_Changes.{IsBitSet}
 use Rattle.ctr_alloc.proofs.FirstPage.{first_page_there}
 use Rattle.ctr_alloc.proofs.allocating.byte_with.Goals as goal
 

@@ -4,10 +4,10 @@ use Rattle.ctr_disk.specs.declared.fault.StoreFault.{StoreFault}
 use Rattle.ctr_rec.specs.declared.record.Overlay.{Overlay}
 use Rattle.ctr_rec.specs.declared.record.Record.{Record}
 use Rattle.ctr_rec.specs.declared.record.Record.TheVariants.{Free}
-use Rattle.ctr_record_effects.specs.Changing.{free_record, laid_at}
+use Rattle.ctr_actions.specs.ctr_record_effects.Changing.{free_record, laid_at}
 use Rattle.ctr_actions.specs.Sites.{site_of}
 use Rattle.ctr_actions.specs.Actions.{Frees}
-use Rattle.ctr_store.specs.Store.{MayLog}
+use Rattle.ctr_walk.specs.store_Store.{MayLog}
 use Rattle.ctr_walk.specs.OneRecord.{AnswersLog}
 use Rattle.ctr_walk.proofs.Records.{may_still, unread, logged_behind, refused_behind}
 use Rattle.ctr_alloc.proofs.OneRecord.{free_may}

@@ -1,5 +1,5 @@
 use Rattle.std.proofs.Common.{◌≡◌, subst}
-use Rattle.ctr_redo.specs.States.{page_at}
+use Rattle.ctr_actions.specs.ctr_redo.States.{page_at}
 use Rattle.ctr_alloc.specs.Free.{IsNextFree, taken_in}
 use Rattle.ctr_alloc.proofs.BitLaws.{may_be_next}
 use Rattle.ctr_alloc.proofs.FirstPage.{first_page_there}

@@ -4,7 +4,7 @@ use Rattle.ctr_disk.specs.Image.{Image, write_of}
 use Rattle.ctr_disk.specs.Crash.{Within}
 use Rattle.ctr_disk.specs.Device.{LeavesOnly, IsSettled}
 use Rattle.ctr_disk.proofs.Moments.{starts, goes_on}
-use Rattle.ctr_home.specs.Blocks.{zero_bytes}
+use Rattle.ctr_redo.specs.home_Blocks.{zero_bytes}
 use Rattle.ctr_base.specs.Extent.{KeepsPages}
 use Rattle.ctr_base.proofs.ExtentLaws.{keeps_start, keeps_torn, cleared_start, cleared_more}
 use Rattle.ctr_base.proofs.extent.clear_pages.Given.{Over}

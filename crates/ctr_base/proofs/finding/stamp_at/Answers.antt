@@ -3,10 +3,10 @@ use Rattle.std.specs.Prelude.{IsTrue, get_or}
 use Rattle.ctr_bytes.specs.Fields.{field}
 use Rattle.ctr_types.specs.declared.file.File.TheVariants.{Pages}
 use Rattle.ctr_disk.specs.Image.{content, section}
-use Rattle.ctr_home.specs.declared.block.Block.TheVariants.{Page}
-use Rattle.ctr_home.specs.declared.block.Home.{Home}
-use Rattle.ctr_home.specs.Blocks.{BlockValue, home_place, held_at, stamp_in}
-use Rattle.ctr_home.proofs.HomeLemmas.{stamp_is, held_inside}
+use Rattle.ctr_redo.specs.home_Block_TheVariants.{Page}
+use Rattle.ctr_redo.specs.home_Home.{Home}
+use Rattle.ctr_redo.specs.home_Blocks.{BlockValue, home_place, held_at, stamp_in}
+use Rattle.ctr_redo.proofs.home_HomeLemmas.{stamp_is, held_inside}
 use Rattle.ctr_base.proofs.finding.stamp_at.Goals.{After-read}
 use Rattle.ctr_base.proofs.finding.stamp_at.Given.{Over}
 use Rattle.ctr_base.proofs.finding.stamp_at.Goals as goal

@@ -1,9 +1,9 @@
 use Rattle.std.proofs.Common.{◌*◌, inl, inr, ap, sym, subst}
 use Rattle.ctr_disk.specs.Image.{Image}
 use Rattle.ctr_disk.proofs.Moments.{weaker, joined, on_ok, settled_by}
-use Rattle.ctr_home.specs.declared.block.Block.TheVariants.{Root as RootBlock}
-use Rattle.ctr_home.specs.Roots.{root_block, root_value}
-use Rattle.ctr_home.specs.Writing.{IsAbove, IsOldOrNewValue}
+use Rattle.ctr_redo.specs.home_Block_TheVariants.{Root as RootBlock}
+use Rattle.ctr_redo.specs.home_Roots.{root_block, root_value}
+use Rattle.ctr_redo.specs.home_Writing.{IsAbove, IsOldOrNewValue}
 use Rattle.ctr_base.specs.Extent.{KeepsPages}
 use Rattle.ctr_base.specs.Growth.{IsGrowing, HasGrown}
 use Rattle.ctr_base.proofs.growing.count_pages.Goals as goal

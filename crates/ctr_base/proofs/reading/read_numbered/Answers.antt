@@ -1,7 +1,7 @@
 use Rattle.std.proofs.Common.{◌≡◌, ◌∙◌, if◌then◌else◌, Bool, List, ℕ, replicate, sym, ap}
 use Rattle.std.proofs.lemmas.Bool.{le-ltb}
-use Rattle.ctr_home.specs.declared.block.Block.TheVariants.{Page}
-use Rattle.ctr_home.specs.Blocks.{zero_bytes, blank_page, page_with, value_of}
+use Rattle.ctr_redo.specs.home_Block_TheVariants.{Page}
+use Rattle.ctr_redo.specs.home_Blocks.{zero_bytes, blank_page, page_with, value_of}
 use Rattle.ctr_base.proofs.reading.read_numbered.Goals as goal
 
 pub returns-then-page-counted-clause-told : goal.returns-then-page-counted-clause-told

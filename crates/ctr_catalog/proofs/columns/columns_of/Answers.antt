@@ -1,6 +1,6 @@
 use Rattle.std.proofs.Common.{◌≡◌, ◌∙◌, ◌+◌, ◌-◌, ◌*◌, ℕ, List, [], ◌∷◌, ◌++◌, append_assoc, sym, ap, arith}
 use Rattle.ctr_types.specs.declared.value.Column.{Column}
-use Rattle.ctr_page.specs.Columns.{columns_from, name_in, kind_said, column_kind_at}
+use Rattle.ctr_names.specs.page_Columns.{columns_from, name_in, kind_said, column_kind_at}
 use Rattle.ctr_bytes.specs.Fields.{field}
 use Rattle.ctr_catalog.proofs.Schemas.{columns_next}
 use Rattle.ctr_catalog.proofs.columns.columns_of.Goals as goal

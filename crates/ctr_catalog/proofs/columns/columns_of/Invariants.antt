@@ -1,5 +1,5 @@
 use Rattle.std.proofs.Common.{◌≡◌, ◌≤◌, ◌+◌, ◌-◌, ◌*◌, ◌++◌}
-use Rattle.ctr_page.specs.Columns.{columns_from, columns_in}
+use Rattle.ctr_names.specs.page_Columns.{columns_from, columns_in}
 use Rattle.ctr_catalog.proofs.columns.columns_of.Given as goal
 
 -- the columns that were read, and behind them those that are left

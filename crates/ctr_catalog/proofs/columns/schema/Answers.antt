@@ -1,7 +1,7 @@
 use Rattle.std.proofs.Common.{sym, subst}
-use Rattle.ctr_record_effects.specs.States.{pages_in}
-use Rattle.ctr_walk.specs.Damage.{damage_told, EndsTold}
-use Rattle.ctr_walk.proofs.Damages.{told_ends}
+use Rattle.ctr_alloc.specs.record_effects_States.{pages_in}
+use Rattle.ctr_alloc.specs.walk_Damage.{damage_told, EndsTold}
+use Rattle.ctr_alloc.proofs.walk_Damages.{told_ends}
 use Rattle.ctr_catalog.specs.Finding.{checks_at}
 use Rattle.ctr_catalog.specs.Columns.{EndsChecked}
 use Rattle.ctr_catalog.proofs.columns.schema.Goals as goal

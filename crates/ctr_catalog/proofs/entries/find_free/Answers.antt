@@ -1,8 +1,8 @@
 use Rattle.std.proofs.Common.{◌≡◌, false, sym, ap, ◌∙◌}
 use Rattle.std.specs.Prelude.{◌==◌}
-use Rattle.ctr_page.specs.declared.entry.CatalogEntry.{CatalogEntry}
-use Rattle.ctr_page.specs.Columns.{entry_at}
-use Rattle.ctr_page.proofs.Searches.{passes_one}
+use Rattle.ctr_names.specs.page_CatalogEntry.{CatalogEntry}
+use Rattle.ctr_names.specs.page_Columns.{entry_at}
+use Rattle.ctr_names.proofs.page_Searches.{passes_one}
 use Rattle.ctr_catalog.specs.Entries.{is_unused, checks_entry}
 use Rattle.ctr_catalog.proofs.entries.find_free.Goals as goal
 

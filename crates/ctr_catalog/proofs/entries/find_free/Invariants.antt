@@ -1,5 +1,5 @@
-use Rattle.ctr_page.specs.Columns.{entry_at}
-use Rattle.ctr_page.specs.Searching.{PassesBy}
+use Rattle.ctr_names.specs.page_Columns.{entry_at}
+use Rattle.ctr_names.specs.page_Searching.{PassesBy}
 use Rattle.ctr_catalog.specs.Entries.{is_unused, checks_entry}
 use Rattle.ctr_catalog.proofs.entries.find_free.Given as goal
 

@@ -1,9 +1,9 @@
 use Rattle.std.proofs.Common.{◌+◌, ◌/◌, ◌%◌, refl, subst}
 use Rattle.std.specs.Prelude.{IfOk}
 use Rattle.std.proofs.lemmas.Result.{err_from_is_err_and}
-use Rattle.ctr_record_effects.specs.States.{pages_in, area_in}
-use Rattle.ctr_walk.specs.Damage.{searched, EndsOnPage}
-use Rattle.ctr_walk.proofs.Searches.{without, passed_page}
+use Rattle.ctr_alloc.specs.record_effects_States.{pages_in, area_in}
+use Rattle.ctr_alloc.specs.walk_Damage.{searched, EndsOnPage}
+use Rattle.ctr_alloc.proofs.walk_Searches.{without, passed_page}
 use Rattle.ctr_catalog.specs.Finding.{NamedSaid, checks_at, changed_in, EndsEntry}
 use Rattle.ctr_catalog.proofs.finding.change_of.Goals as goal
 

@@ -1,8 +1,8 @@
 use Rattle.std.proofs.Common.{subst}
-use Rattle.ctr_record_effects.specs.States.{pages_in, area_in}
-use Rattle.ctr_meta.specs.Tables.{Tables}
-use Rattle.ctr_walk.specs.Damage.{damage_told, EndsTold}
-use Rattle.ctr_walk.proofs.Damages.{told_ends}
+use Rattle.ctr_alloc.specs.record_effects_States.{pages_in, area_in}
+use Rattle.ctr_names.specs.meta_Tables.{Tables}
+use Rattle.ctr_alloc.specs.walk_Damage.{damage_told, EndsTold}
+use Rattle.ctr_alloc.proofs.walk_Damages.{told_ends}
 use Rattle.ctr_catalog.specs.Finding.{checks_at, changed_in, EndsEntry}
 use Rattle.ctr_catalog.proofs.finding.changed.Goals as goal
 

@@ -1,9 +1,9 @@
 use Rattle.std.proofs.Common.{subst, ◌<◌, Option, ℕ}
 use Rattle.std.specs.Prelude.{IfSome}
-use Rattle.ctr_record_effects.specs.States.{pages_in, area_in}
-use Rattle.ctr_meta.specs.Tables.{Tables}
-use Rattle.ctr_walk.specs.Damage.{damage_told, EndsTold}
-use Rattle.ctr_walk.proofs.Damages.{told_ends, told_ok}
+use Rattle.ctr_alloc.specs.record_effects_States.{pages_in, area_in}
+use Rattle.ctr_names.specs.meta_Tables.{Tables}
+use Rattle.ctr_alloc.specs.walk_Damage.{damage_told, EndsTold}
+use Rattle.ctr_alloc.proofs.walk_Damages.{told_ends, told_ok}
 use Rattle.ctr_catalog.specs.Finding.{checks_at, entry_seen, EndsEntries}
 use Rattle.ctr_catalog.proofs.finding.find.Goals as goal
 

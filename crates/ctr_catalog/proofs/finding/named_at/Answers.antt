@@ -1,11 +1,11 @@
 use Rattle.std.proofs.Common.{ℕ, ◌%◌, ◌<◌, sym, subst}
 use Rattle.std.specs.Prelude.{IfOk}
-use Rattle.ctr_redo.specs.States.{page_limit}
-use Rattle.ctr_record_effects.specs.States.{pages_in}
-use Rattle.ctr_walk.specs.Damage.{searched, EndsOnPage}
-use Rattle.ctr_walk.proofs.Searches.{ends_there}
+use Rattle.ctr_alloc.specs.redo_States.{page_limit}
+use Rattle.ctr_alloc.specs.record_effects_States.{pages_in}
+use Rattle.ctr_alloc.specs.walk_Damage.{searched, EndsOnPage}
+use Rattle.ctr_alloc.proofs.walk_Searches.{ends_there}
 use Rattle.ctr_catalog.specs.Finding.{NamedSaid}
-use Rattle.ctr_walk.proofs.Limits.{catalog_in_limit}
+use Rattle.ctr_alloc.proofs.walk_Limits.{catalog_in_limit}
 use Rattle.ctr_catalog.proofs.finding.named_at.Goals as goal
 
 pub returns-clause-said : goal.returns-clause-said

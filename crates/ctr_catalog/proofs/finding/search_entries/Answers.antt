@@ -1,14 +1,14 @@
 use Rattle.std.proofs.Common.{◌+◌, ◌/◌, ◌%◌, inr, Ok, refl, sym, ◌∙◌, ap, subst}
 use Rattle.std.specs.Prelude.{IfOk}
 use Rattle.std.proofs.lemmas.Result.{err_from_is_err_and}
-use Rattle.ctr_redo.specs.States.{State}
-use Rattle.ctr_meta.specs.Kept.{TablesKept}
-use Rattle.ctr_record_effects.specs.States.{pages_in, area_in}
-use Rattle.ctr_walk.specs.Damage.{searched, EndsOnPage}
-use Rattle.ctr_walk.proofs.Joins.{answers_ok}
-use Rattle.ctr_walk.proofs.PagesRead.{reads_on, still_goes, same_now, same_meta}
-use Rattle.ctr_walk.proofs.Searches.{without, passed_page, leaves_without}
-use Rattle.ctr_page.proofs.Searches.{passes_one}
+use Rattle.ctr_alloc.specs.redo_States.{State}
+use Rattle.ctr_names.specs.meta_Kept.{TablesKept}
+use Rattle.ctr_alloc.specs.record_effects_States.{pages_in, area_in}
+use Rattle.ctr_alloc.specs.walk_Damage.{searched, EndsOnPage}
+use Rattle.ctr_alloc.proofs.walk_Joins.{answers_ok}
+use Rattle.ctr_alloc.proofs.walk_PagesRead.{reads_on, still_goes, same_now, same_meta}
+use Rattle.ctr_alloc.proofs.walk_Searches.{without, passed_page, leaves_without}
+use Rattle.ctr_names.proofs.page_Searches.{passes_one}
 use Rattle.ctr_catalog.specs.Finding.{NamedSaid, stands_seen, is_made_so, checks_at, entry_seen, EndsEntries}
 use Rattle.ctr_catalog.proofs.Found.{seen_here}
 use Rattle.ctr_catalog.proofs.finding.search_entries.Goals as goal

@@ -1,9 +1,9 @@
 use Rattle.std.proofs.Common.{◌≡◌}
 use Rattle.std.specs.Prelude.{IsTrue}
-use Rattle.ctr_base.specs.Base.{IsSoundImage}
-use Rattle.ctr_page.specs.Searching.{PassesBy}
-use Rattle.ctr_record_effects.specs.States.{pages_in, area_in}
-use Rattle.ctr_walk.proofs.PagesRead.{HasRead}
+use Rattle.ctr_alloc.specs.base_Base.{IsSoundImage}
+use Rattle.ctr_names.specs.page_Searching.{PassesBy}
+use Rattle.ctr_alloc.specs.record_effects_States.{pages_in, area_in}
+use Rattle.ctr_alloc.proofs.walk_PagesRead.{HasRead}
 use Rattle.ctr_catalog.specs.Finding.{checks_at, entry_seen}
 use Rattle.ctr_catalog.proofs.finding.search_entries.Given as goal
 

@@ -1,7 +1,7 @@
 use Rattle.std.proofs.Common.{sym, ◌∙◌, ap}
 use Rattle.std.specs.Prelude.{◌&&◌, is_some}
 use Rattle.std.proofs.lemmas.Bool.{and_parts}
-use Rattle.ctr_area.specs.Images.{is_named_so}
+use Rattle.ctr_names.specs.area_Images.{is_named_so}
 use Rattle.ctr_names.specs.Search.{is_changed_for}
 use Rattle.ctr_names.proofs.Told.{changed_told, steady_untold}
 use Rattle.ctr_catalog.proofs.Searched.{changed_made}

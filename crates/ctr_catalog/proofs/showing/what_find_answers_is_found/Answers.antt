@@ -1,8 +1,8 @@
 use Rattle.std.proofs.Common.{sym, ◌∙◌, ap, arith}
 use Rattle.std.specs.Prelude.{◌&&◌}
 use Rattle.std.proofs.lemmas.Bool.{and_parts}
-use Rattle.ctr_meta.specs.Seen.{xid_is_seen}
-use Rattle.ctr_area.specs.Images.{is_named_so, is_standing}
+use Rattle.ctr_names.specs.meta_Seen.{xid_is_seen}
+use Rattle.ctr_names.specs.area_Images.{is_named_so, is_standing}
 use Rattle.ctr_names.specs.Search.{finds}
 use Rattle.ctr_names.proofs.Fates.{found_same}
 use Rattle.ctr_catalog.proofs.Searched.{seen_stands, stands_alike}

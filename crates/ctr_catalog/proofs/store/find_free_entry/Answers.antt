@@ -1,8 +1,8 @@
 use Rattle.std.proofs.Common.{◌<◌, Option, ℕ}
 use Rattle.std.specs.Prelude.{IfSome}
-use Rattle.ctr_record_effects.specs.States.{pages_in}
-use Rattle.ctr_walk.specs.Damage.{damage_told}
-use Rattle.ctr_walk.proofs.Damages.{told_ends, told_ok}
+use Rattle.ctr_alloc.specs.record_effects_States.{pages_in}
+use Rattle.ctr_alloc.specs.walk_Damage.{damage_told}
+use Rattle.ctr_alloc.proofs.walk_Damages.{told_ends, told_ok}
 use Rattle.ctr_catalog.specs.Free.{EndsCatalog}
 use Rattle.ctr_catalog.proofs.store.find_free_entry.Goals as goal
 

@@ -1,6 +1,6 @@
 use Rattle.std.proofs.Common.{◌<◌, ℕ, Option, sym, subst}
 use Rattle.std.specs.Prelude.{IfOk, IfSome}
-use Rattle.ctr_walk.proofs.Searches.{ends_there, ok_on}
+use Rattle.ctr_alloc.proofs.walk_Searches.{ends_there, ok_on}
 use Rattle.ctr_catalog.specs.Free.{EndsFreeEntry}
 use Rattle.ctr_catalog.proofs.Lowest.{in_limit, few_found}
 use Rattle.ctr_catalog.proofs.store.free_on.Goals as goal

@@ -1,11 +1,11 @@
 use Rattle.std.proofs.Common.{inl, inr, None, Some, Ok, refl, subst}
 use Rattle.std.specs.Prelude.{IfOk}
 use Rattle.std.proofs.lemmas.Result.{err_from_is_err_and}
-use Rattle.ctr_redo.specs.States.{State}
-use Rattle.ctr_record_effects.specs.States.{pages_in}
-use Rattle.ctr_walk.specs.Damage.{searched, EndsOnPage}
-use Rattle.ctr_walk.proofs.Joins.{answers_ok, pages_join}
-use Rattle.ctr_walk.proofs.Searches.{without, passed, leaves_behind}
+use Rattle.ctr_alloc.specs.redo_States.{State}
+use Rattle.ctr_alloc.specs.record_effects_States.{pages_in}
+use Rattle.ctr_alloc.specs.walk_Damage.{searched, EndsOnPage}
+use Rattle.ctr_alloc.proofs.walk_Joins.{answers_ok, pages_join}
+use Rattle.ctr_alloc.proofs.walk_Searches.{without, passed, leaves_behind}
 use Rattle.ctr_catalog.specs.Free.{EndsFreeEntry, EndsCatalog}
 use Rattle.ctr_catalog.proofs.store.search_free.Goals as goal
 

@@ -2,14 +2,14 @@ use Rattle.std.proofs.Common.{inl, inr, Some, Ok, Err, Result, subst}
 use Rattle.std.specs.Prelude.{IsTrue, ⊤}
 use Rattle.ctr_disk.specs.declared.fault.StoreFault.{StoreFault}
 use Rattle.ctr_rec.specs.declared.record.Record.{Record}
-use Rattle.ctr_base.specs.Base.{IsSoundImage}
-use Rattle.ctr_page.specs.Searching.{IsFirst}
-use Rattle.ctr_area.specs.Reading.{area_of}
-use Rattle.ctr_record_effects.specs.States.{pages_in}
-use Rattle.ctr_record_effects.specs.Changing.{create_record}
-use Rattle.ctr_walk.specs.OneRecord.{LogsOne}
-use Rattle.ctr_walk.proofs.Records.{one_behind}
-use Rattle.ctr_walk.proofs.Damages.{reads_err}
+use Rattle.ctr_alloc.specs.base_Base.{IsSoundImage}
+use Rattle.ctr_names.specs.page_Searching.{IsFirst}
+use Rattle.ctr_alloc.specs.area_Reading.{area_of}
+use Rattle.ctr_alloc.specs.record_effects_States.{pages_in}
+use Rattle.ctr_alloc.specs.record_effects_Changing.{create_record}
+use Rattle.ctr_alloc.specs.walk_OneRecord.{LogsOne}
+use Rattle.ctr_alloc.proofs.walk_Records.{one_behind}
+use Rattle.ctr_alloc.proofs.walk_Damages.{reads_err}
 use Rattle.ctr_catalog.specs.Free.{EndsCatalog, is_free_entry}
 use Rattle.ctr_catalog.proofs.Lowest.{lowest_free}
 use Rattle.ctr_catalog.proofs.Made.{one_ok, one_err}

@@ -4,14 +4,14 @@ use Rattle.ctr_bytes.specs.Fields.{spelled}
 use Rattle.ctr_rec.specs.declared.record.Overlay.{Overlay}
 use Rattle.ctr_rec.specs.declared.record.Record.{Record}
 use Rattle.ctr_rec.specs.declared.record.Record.TheVariants.{Drop}
-use Rattle.ctr_redo.specs.States.{page_limit, page_at}
-use Rattle.ctr_record_effects.specs.Changing.{laid_in_entry, drop_record}
-use Rattle.ctr_actions.specs.Sites.{site_of}
-use Rattle.ctr_actions.specs.Actions.{Drops, site_after}
-use Rattle.ctr_store.specs.Store.{MayLog, Logs}
-use Rattle.ctr_walk.specs.OneRecord.{LogsOne}
-use Rattle.ctr_walk.proofs.Records.{both_ok}
-use Rattle.ctr_walk.proofs.Limits.{catalog_in_limit}
+use Rattle.ctr_alloc.specs.redo_States.{page_limit, page_at}
+use Rattle.ctr_alloc.specs.record_effects_Changing.{laid_in_entry, drop_record}
+use Rattle.ctr_alloc.specs.actions_Sites.{site_of}
+use Rattle.ctr_alloc.specs.actions_Actions.{Drops, site_after}
+use Rattle.ctr_alloc.specs.store_Store.{MayLog, Logs}
+use Rattle.ctr_alloc.specs.walk_OneRecord.{LogsOne}
+use Rattle.ctr_alloc.proofs.walk_Records.{both_ok}
+use Rattle.ctr_alloc.proofs.walk_Limits.{catalog_in_limit}
 use Rattle.ctr_catalog.proofs.OneRecord.{drop_may}
 use Rattle.ctr_catalog.proofs.writing.drop_table.Goals as goal
 

@@ -1,21 +1,21 @@
 use Rattle.std.proofs.Common.{◌≡◌, ℕ, ◌+◌, ◌*◌, ◌/◌, ◌%◌, ◌<◌, [], ◌∷◌, length, sym, ap, ◌∙◌, subst, refl, arith}
 use Rattle.std.specs.Prelude.{OnOk}
 use Rattle.ctr_disk.proofs.Moments.{on_ok}
-use Rattle.ctr_page.specs.Columns.{new_entry_bytes}
-use Rattle.ctr_actions.specs.Sites.{site_of}
-use Rattle.ctr_actions.specs.Actions.{Creates, site_after}
+use Rattle.ctr_names.specs.page_Columns.{new_entry_bytes}
+use Rattle.ctr_alloc.specs.actions_Sites.{site_of}
+use Rattle.ctr_alloc.specs.actions_Actions.{Creates, site_after}
 use Rattle.ctr_rec.specs.declared.record.Overlay.{Overlay}
 use Rattle.ctr_rec.specs.declared.record.Record.{Record}
 use Rattle.ctr_rec.specs.declared.record.Record.TheVariants.{Create}
-use Rattle.ctr_redo.specs.States.{page_limit, page_at}
-use Rattle.ctr_area.specs.Areas.{Area}
-use Rattle.ctr_area.specs.Changes.{new_title, empty_chains, ChangesEntry}
-use Rattle.ctr_record_effects.specs.States.{area_in}
-use Rattle.ctr_record_effects.specs.Changing.{laid_at, create_record}
-use Rattle.ctr_store.specs.Store.{MayLog, Logs}
-use Rattle.ctr_walk.specs.OneRecord.{LogsOne}
-use Rattle.ctr_walk.proofs.Records.{both_ok}
-use Rattle.ctr_walk.proofs.Limits.{catalog_in_limit}
+use Rattle.ctr_alloc.specs.redo_States.{page_limit, page_at}
+use Rattle.ctr_names.specs.area_Areas.{Area}
+use Rattle.ctr_names.specs.area_Changes.{new_title, empty_chains, ChangesEntry}
+use Rattle.ctr_alloc.specs.record_effects_States.{area_in}
+use Rattle.ctr_alloc.specs.record_effects_Changing.{laid_at, create_record}
+use Rattle.ctr_alloc.specs.store_Store.{MayLog, Logs}
+use Rattle.ctr_alloc.specs.walk_OneRecord.{LogsOne}
+use Rattle.ctr_alloc.proofs.walk_Records.{both_ok}
+use Rattle.ctr_alloc.proofs.walk_Limits.{catalog_in_limit}
 use Rattle.ctr_catalog.proofs.OneRecord.{create_may}
 use Rattle.ctr_catalog.proofs.writing.log_created.Goals as goal
 

@@ -1,8 +1,8 @@
 use Rattle.std.proofs.Common.{◌≡◌, sym, subst}
 use Rattle.std.specs.Prelude.{OnOk}
-use Rattle.ctr_record_effects.specs.States.{area_in, IsWholePage}
-use Rattle.ctr_actions.specs.Sites.{site_of}
-use Rattle.ctr_actions.specs.Actions.{site_after, undoing}
+use Rattle.ctr_alloc.specs.record_effects_States.{area_in, IsWholePage}
+use Rattle.ctr_alloc.specs.actions_Sites.{site_of}
+use Rattle.ctr_alloc.specs.actions_Actions.{site_after, undoing}
 use Rattle.ctr_catalog.specs.Writing.{undo_page, HasMade}
 use Rattle.ctr_catalog.proofs.writing.undo_item.Goals as goal
 

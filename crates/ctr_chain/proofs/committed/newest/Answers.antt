@@ -1,11 +1,11 @@
 use Rattle.std.proofs.Common.{◌≡◌, subst}
 use Rattle.std.specs.Prelude.{IfOk}
-use Rattle.ctr_meta.specs.Tables.{Tables}
-use Rattle.ctr_area.specs.Chains.{chain_of}
-use Rattle.ctr_area.specs.Images.{is_committed_in}
-use Rattle.ctr_record_effects.specs.States.{pages_in, area_in}
-use Rattle.ctr_walk.specs.Damage.{damage_told, EndsTold}
-use Rattle.ctr_walk.proofs.Damages.{told_ends, told_ok}
+use Rattle.ctr_names.specs.meta_Tables.{Tables}
+use Rattle.ctr_names.specs.area_Chains.{chain_of}
+use Rattle.ctr_names.specs.area_Images.{is_committed_in}
+use Rattle.ctr_pvs.specs.record_effects_States.{pages_in, area_in}
+use Rattle.ctr_pvs.specs.walk_Damage.{damage_told, EndsTold}
+use Rattle.ctr_pvs.proofs.walk_Damages.{told_ends, told_ok}
 use Rattle.ctr_chain.specs.Seeing.{first_xid}
 use Rattle.ctr_chain.specs.Seeking.{sought_at, xids_found}
 use Rattle.ctr_chain.proofs.committed.newest.Goals as goal

@@ -1,8 +1,8 @@
 use Rattle.std.proofs.Common.{◌≡◌, refl, sym, ◌∙◌, ap}
 use Rattle.std.proofs.lemmas.Result.{err_from_is_err_and}
-use Rattle.ctr_area.specs.Images.{is_committed_in}
-use Rattle.ctr_record_effects.specs.States.{pages_in, area_in}
-use Rattle.ctr_walk.proofs.Searches.{passed}
+use Rattle.ctr_names.specs.area_Images.{is_committed_in}
+use Rattle.ctr_pvs.specs.record_effects_States.{pages_in, area_in}
+use Rattle.ctr_pvs.proofs.walk_Searches.{passed}
 use Rattle.ctr_chain.specs.Seeking.{sought_at, xids_found, SearchSaid}
 use Rattle.ctr_chain.proofs.Chain.{row_found, xid_is_found}
 use Rattle.ctr_chain.proofs.committed.newest_found.Goals as goal

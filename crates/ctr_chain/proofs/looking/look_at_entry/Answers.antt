@@ -1,9 +1,9 @@
 use Rattle.std.proofs.Common.{sym, subst, arith}
 use Rattle.std.specs.Prelude.{IfOk}
-use Rattle.ctr_record_effects.specs.States.{pages_in}
-use Rattle.ctr_walk.specs.Damage.{searched, EndsOnPage}
-use Rattle.ctr_walk.proofs.Limits.{in_limit}
-use Rattle.ctr_walk.proofs.Searches.{ends_on}
+use Rattle.ctr_pvs.specs.record_effects_States.{pages_in}
+use Rattle.ctr_pvs.specs.walk_Damage.{searched, EndsOnPage}
+use Rattle.ctr_pvs.proofs.walk_Limits.{in_limit}
+use Rattle.ctr_pvs.proofs.walk_Searches.{ends_on}
 use Rattle.ctr_chain.specs.Looking.{LooksAtEntry}
 use Rattle.ctr_chain.proofs.Looked.{looks_on}
 use Rattle.ctr_chain.proofs.looking.look_at_entry.Goals as goal

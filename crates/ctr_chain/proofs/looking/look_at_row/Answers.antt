@@ -1,5 +1,5 @@
-use Rattle.ctr_walk.proofs.Limits.{in_limit}
-use Rattle.ctr_walk.proofs.Searches.{ends_there}
+use Rattle.ctr_pvs.proofs.walk_Limits.{in_limit}
+use Rattle.ctr_pvs.proofs.walk_Searches.{ends_there}
 use Rattle.ctr_chain.specs.Looking.{LooksAtRow}
 use Rattle.ctr_chain.proofs.looking.look_at_row.Goals as goal
 

@@ -1,10 +1,10 @@
 use Rattle.std.proofs.Common.{◌<◌, subst}
 use Rattle.std.specs.Prelude.{IfOk}
 use Rattle.ctr_page.specs.declared.rows.Place.{Place}
-use Rattle.ctr_record_effects.specs.States.{pages_in}
-use Rattle.ctr_walk.specs.Damage.{searched, EndsOnPage}
-use Rattle.ctr_walk.proofs.Limits.{in_limit}
-use Rattle.ctr_walk.proofs.Searches.{ends_there}
+use Rattle.ctr_pvs.specs.record_effects_States.{pages_in}
+use Rattle.ctr_pvs.specs.walk_Damage.{searched, EndsOnPage}
+use Rattle.ctr_pvs.proofs.walk_Limits.{in_limit}
+use Rattle.ctr_pvs.proofs.walk_Searches.{ends_there}
 use Rattle.ctr_chain.specs.Reading.{RowSaidAt}
 use Rattle.ctr_chain.proofs.reading.read_row.Goals as goal
 

@@ -1,7 +1,7 @@
 use Rattle.std.proofs.Common.{cond, Some, None, sym, ap}
 use Rattle.std.proofs.lemmas.Bool.{not-false}
 use Rattle.std.specs.Prelude.{◌==◌}
-use Rattle.ctr_value.specs.Values.{row_by_kinds}
+use Rattle.ctr_page.specs.ctr_value.Values.{row_by_kinds}
 use Rattle.ctr_chain.proofs.rows.version_row.Goals as goal
 
 -- where there is no memory, there is a row

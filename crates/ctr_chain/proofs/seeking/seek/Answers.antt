@@ -2,24 +2,24 @@ use Rattle.std.proofs.Common.{◌≡◌, ℕ, ◌*◌, Bool, List, Option, None,
 use Rattle.std.specs.Prelude.{IsTrue, IfOk, ⊤}
 use Rattle.ctr_bytes.specs.Following.{◌>>=◌}
 use Rattle.std.proofs.lemmas.Result.{err_from_is_err_and}
-use Rattle.ctr_base.specs.Base.{IsSoundImage}
+use Rattle.ctr_pvs.specs.base_Base.{IsSoundImage}
 use Rattle.ctr_types.specs.declared.value.Kind.{Kind}
-use Rattle.ctr_redo.specs.States.{State}
+use Rattle.ctr_pvs.specs.redo_States.{State}
 use Rattle.ctr_page.specs.declared.walk.BadChain.{BadChain}
 use Rattle.ctr_page.specs.Places.{kept_size, room_for}
 use Rattle.ctr_page.specs.Columns.{kinds_width}
 use Rattle.ctr_page.specs.Walking.{most_in_chain}
-use Rattle.ctr_area.specs.Checked.{kinds_at}
-use Rattle.ctr_record_effects.specs.States.{pages_in, area_in}
-use Rattle.ctr_store.specs.Store.{LeavesPage}
-use Rattle.ctr_walk.specs.Damage.{searched, EndsOnPage}
-use Rattle.ctr_walk.proofs.Joins.{answers_ok, pages_join}
-use Rattle.ctr_walk.proofs.Searches.{without, passed, passed_page, leaves_behind}
+use Rattle.ctr_pvs.specs.area_Checked.{kinds_at}
+use Rattle.ctr_pvs.specs.record_effects_States.{pages_in, area_in}
+use Rattle.ctr_pvs.specs.store_Store.{LeavesPage}
+use Rattle.ctr_pvs.specs.walk_Damage.{searched, EndsOnPage}
+use Rattle.ctr_pvs.proofs.walk_Joins.{answers_ok, pages_join}
+use Rattle.ctr_pvs.proofs.walk_Searches.{without, passed, passed_page, leaves_behind}
 use Rattle.ctr_pvs.specs.Table.{TableSaid}
-use Rattle.ctr_walk.specs.Tables.{kinds_said}
+use Rattle.ctr_pvs.specs.walk_Tables.{kinds_said}
 use Rattle.ctr_pvs.specs.Reading.{row_on_check}
 use Rattle.ctr_pvs.proofs.Told.{no_table_first, by_table}
-use Rattle.ctr_area.specs.Reading.{area_of}
+use Rattle.ctr_pvs.specs.area_Reading.{area_of}
 use Rattle.ctr_chain.specs.declared.seeking.Found.{Found}
 use Rattle.ctr_chain.specs.Looking.{LooksAtRow}
 use Rattle.ctr_chain.specs.Seeing.{sought_by}

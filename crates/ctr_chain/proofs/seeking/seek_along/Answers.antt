@@ -1,13 +1,13 @@
 use Rattle.std.proofs.Common.{◌≡◌, ◌-◌, inr, suc, Ok, sym, ◌∙◌, ap, subst, arith}
 use Rattle.std.specs.Prelude.{IsTrue, IfOk}
 use Rattle.std.proofs.lemmas.Result.{err_from_is_err_and}
-use Rattle.ctr_redo.specs.States.{State}
-use Rattle.ctr_base.specs.Base.{IsSoundImage}
-use Rattle.ctr_record_effects.specs.States.{pages_in}
-use Rattle.ctr_walk.specs.Damage.{searched, EndsOnPage}
-use Rattle.ctr_walk.proofs.Joins.{answers_ok}
-use Rattle.ctr_walk.proofs.PagesRead.{reads_on, same_now, same_meta, was_read}
-use Rattle.ctr_walk.proofs.Searches.{without, passed_page, leaves_without}
+use Rattle.ctr_pvs.specs.redo_States.{State}
+use Rattle.ctr_pvs.specs.base_Base.{IsSoundImage}
+use Rattle.ctr_pvs.specs.record_effects_States.{pages_in}
+use Rattle.ctr_pvs.specs.walk_Damage.{searched, EndsOnPage}
+use Rattle.ctr_pvs.proofs.walk_Joins.{answers_ok}
+use Rattle.ctr_pvs.proofs.walk_PagesRead.{reads_on, same_now, same_meta, was_read}
+use Rattle.ctr_pvs.proofs.walk_Searches.{without, passed_page, leaves_without}
 use Rattle.ctr_chain.specs.Looking.{LooksAtEntry}
 use Rattle.ctr_chain.specs.Seeing.{sought_by}
 use Rattle.ctr_chain.specs.Seeking.{EntriesOf, sought_along}

@@ -1,11 +1,11 @@
 use Rattle.std.proofs.Common.{◌≡◌}
 use Rattle.std.specs.Prelude.{IsTrue}
-use Rattle.ctr_base.specs.Base.{IsSoundImage}
-use Rattle.ctr_area.specs.Reading.{area_of}
-use Rattle.ctr_area.specs.Checked.{kinds_at}
-use Rattle.ctr_record_effects.specs.States.{pages_in}
-use Rattle.ctr_walk.proofs.PagesRead.{HasRead}
-use Rattle.ctr_walk.specs.Tables.{kinds_said}
+use Rattle.ctr_pvs.specs.base_Base.{IsSoundImage}
+use Rattle.ctr_pvs.specs.area_Reading.{area_of}
+use Rattle.ctr_pvs.specs.area_Checked.{kinds_at}
+use Rattle.ctr_pvs.specs.record_effects_States.{pages_in}
+use Rattle.ctr_pvs.proofs.walk_PagesRead.{HasRead}
+use Rattle.ctr_pvs.specs.walk_Tables.{kinds_said}
 use Rattle.ctr_chain.specs.Seeing.{sought_by}
 use Rattle.ctr_chain.specs.Seeking.{EntriesOf, sought_along}
 use Rattle.ctr_chain.proofs.seeking.seek_along.Given as goal

@@ -4,12 +4,12 @@ use Rattle.std.specs.Prelude.{is_some}
 use Rattle.ctr_versions.specs.Chains.{above, newest}
 use Rattle.ctr_versions.specs.Engine.{IsSeenIfOld}
 use Rattle.ctr_versions.specs.Xids.{number_of}
-use Rattle.ctr_meta.specs.Seen.{xid_is_changed}
-use Rattle.ctr_area.specs.Areas.{RowVersion}
-use Rattle.ctr_area.specs.Chains.{chain_of}
-use Rattle.ctr_area.specs.Images.{is_committed_in}
+use Rattle.ctr_names.specs.meta_Seen.{xid_is_changed}
+use Rattle.ctr_names.specs.area_Areas.{RowVersion}
+use Rattle.ctr_names.specs.area_Chains.{chain_of}
+use Rattle.ctr_names.specs.area_Images.{is_committed_in}
 use Rattle.ctr_names.proofs.Fates.{agrees, changed_same}
-use Rattle.ctr_record_laws.proofs.Cleaned.{cleaned_was}
+use Rattle.ctr_names.proofs.record_laws_Cleaned.{cleaned_was}
 use Rattle.ctr_chain.specs.Seeing.{first_xid}
 use Rattle.ctr_chain.proofs.Numbered.{first_by, first_newest, told_above}
 use Rattle.ctr_chain.proofs.showing.a_changed_row_is_told.Goals as goal

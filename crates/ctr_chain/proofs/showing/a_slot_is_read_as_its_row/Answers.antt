@@ -5,13 +5,13 @@ use Rattle.ctr_versions.specs.Engine.{IsDrawn, session_sees}
 use Rattle.ctr_versions.specs.Versions.{rows_of}
 use Rattle.ctr_versions.proofs.By.{all_mapped_by}
 use Rattle.ctr_versions.proofs.Chains.{seen_alike}
-use Rattle.ctr_meta.specs.Seen.{xid_is_seen}
+use Rattle.ctr_names.specs.meta_Seen.{xid_is_seen}
 use Rattle.ctr_names.proofs.Fates.{found_same}
 use Rattle.ctr_names.proofs.Whole.{all_drawn}
 use Rattle.ctr_versions.specs.Chains.{value_seen, newest}
-use Rattle.ctr_area.specs.Images.{is_committed_in, versions_in}
-use Rattle.ctr_area.specs.Chains.{chain_of}
-use Rattle.ctr_record_laws.proofs.Cleaned.{cleaned_was}
+use Rattle.ctr_names.specs.area_Images.{is_committed_in, versions_in}
+use Rattle.ctr_names.specs.area_Chains.{chain_of}
+use Rattle.ctr_names.proofs.record_laws_Cleaned.{cleaned_was}
 use Rattle.ctr_chain.proofs.Numbered.{above_none, first_drawn, first_newest}
 use Rattle.ctr_chain.proofs.showing.a_slot_is_read_as_its_row.Goals as goal
 

@@ -1,10 +1,10 @@
 use Rattle.std.proofs.Common.{sym, subst}
 use Rattle.std.specs.Prelude.{IfOk}
-use Rattle.ctr_record_effects.specs.States.{pages_in, area_in}
-use Rattle.ctr_walk.specs.Damage.{damage_told, EndsTold}
-use Rattle.ctr_walk.proofs.Damages.{told_ends, told_ok}
-use Rattle.ctr_meta.specs.Seen.{xid_is_seen}
-use Rattle.ctr_meta.specs.Tables.{Tables}
+use Rattle.ctr_pvs.specs.record_effects_States.{pages_in, area_in}
+use Rattle.ctr_pvs.specs.walk_Damage.{damage_told, EndsTold}
+use Rattle.ctr_pvs.proofs.walk_Damages.{told_ends, told_ok}
+use Rattle.ctr_names.specs.meta_Seen.{xid_is_seen}
+use Rattle.ctr_names.specs.meta_Tables.{Tables}
 use Rattle.ctr_chain.specs.Rows.{GivesRow}
 use Rattle.ctr_chain.specs.Seeking.{sought_at}
 use Rattle.ctr_chain.specs.Visible.{as_read, EndsReading, visible_row}

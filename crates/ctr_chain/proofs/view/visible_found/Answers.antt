@@ -1,17 +1,17 @@
 use Rattle.std.proofs.Common.{◌≡◌, ℕ, ◌<◌, Bool, Option, None, Some, Ok, Err, refl, sym, ◌∙◌, ap, subst, arith}
 use Rattle.std.specs.Prelude.{IsTrue, IfOk}
 use Rattle.std.proofs.lemmas.Result.{err_from_is_err_and}
-use Rattle.ctr_base.specs.Base.{IsSoundImage}
-use Rattle.ctr_redo.specs.States.{State}
+use Rattle.ctr_pvs.specs.base_Base.{IsSoundImage}
+use Rattle.ctr_pvs.specs.redo_States.{State}
 use Rattle.ctr_page.specs.declared.rows.Place.{Place}
-use Rattle.ctr_record_effects.specs.States.{pages_in, area_in}
-use Rattle.ctr_walk.specs.Damage.{searched, EndsOnPage}
-use Rattle.ctr_walk.proofs.Joins.{pages_join}
-use Rattle.ctr_walk.proofs.Searches.{passed, by_page, ok_by}
-use Rattle.ctr_meta.specs.Seen.{xid_is_seen}
+use Rattle.ctr_pvs.specs.record_effects_States.{pages_in, area_in}
+use Rattle.ctr_pvs.specs.walk_Damage.{searched, EndsOnPage}
+use Rattle.ctr_pvs.proofs.walk_Joins.{pages_join}
+use Rattle.ctr_pvs.proofs.walk_Searches.{passed, by_page, ok_by}
+use Rattle.ctr_names.specs.meta_Seen.{xid_is_seen}
 use Rattle.ctr_chain.specs.declared.seeking.Found.{Found}
 use Rattle.ctr_chain.specs.Reading.{place_of_version, RowSaidAt}
-use Rattle.ctr_walk.specs.declared.table.TableOf.{TableOf}
+use Rattle.ctr_pvs.specs.walk_TableOf.{TableOf}
 use Rattle.ctr_rec.specs.declared.decoding.BadRecord.{BadRecord}
 use Rattle.ctr_chain.specs.Rows.{GivesRow}
 use Rattle.ctr_chain.specs.Visible.{EndsReading, visible_row}

@@ -1,7 +1,7 @@
 use Rattle.std.proofs.Common.{refl, sym, ap, subst}
 use Rattle.std.specs.Prelude.{is_some}
 use Rattle.std.proofs.lemmas.Bool.{false≢true}
-use Rattle.ctr_txn.specs.Held.{TxnsHeld}
+use Rattle.ctr_session_world.specs.txn_Held.{TxnsHeld}
 use Rattle.ctr_session_world.proofs.Ready.{stands_with}
 use Rattle.ctr_session_world.proofs.Resting.{rests_here}
 use Rattle.ctr_session_world.specs.Ready.{StandOver}

@@ -1,5 +1,5 @@
-use Rattle.ctr_page_turns.specs.Turns.{RestsBehind}
-use Rattle.ctr_rollback.proofs.Records.{three_ok}
+use Rattle.ctr_session_world.specs.page_turns_Turns.{RestsBehind}
+use Rattle.ctr_session_world.proofs.rollback_Records.{three_ok}
 use Rattle.ctr_session_world.proofs.Resting.{world_rests}
 use Rattle.ctr_control.proofs.answering.make_room.Goals as goal
 

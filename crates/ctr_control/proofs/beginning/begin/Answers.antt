@@ -3,9 +3,9 @@ use Rattle.ctr_types.specs.declared.statement.Statement.TheVariants as st
 use Rattle.ctr_types.specs.declared.tape.Act.TheVariants as act
 use Rattle.ctr_types.specs.declared.tape.Refusal.TheVariants as refusal
 use Rattle.ctr_types.specs.declared.tape.Reply.TheVariants as reply
-use Rattle.ctr_kept.specs.Turns.{state_now}
-use Rattle.ctr_txn.specs.Held.{TxnsHeld}
-use Rattle.ctr_txn.specs.Steps.{txn_begun}
+use Rattle.ctr_session_world.specs.kept_Turns.{state_now}
+use Rattle.ctr_session_world.specs.txn_Held.{TxnsHeld}
+use Rattle.ctr_session_world.specs.txn_Steps.{txn_begun}
 use Rattle.ctr_session_world.specs.Ready.{LeavesReady, StaysUnasked}
 use Rattle.ctr_session_world.specs.World.{SessionsHeld}
 use Rattle.ctr_session_world.specs.Told.{IsTold}

@@ -12,13 +12,13 @@ use Rattle.ctr_area.specs.Sound.{IsAmong}
 use Rattle.ctr_actions.specs.Actions.{Commits, Owes}
 use Rattle.ctr_actions.specs.Facts.{Fact}
 use Rattle.ctr_actions.specs.Sites.{site_of}
-use Rattle.ctr_page_turns.specs.Acts.{ActsBy}
+use Rattle.ctr_session_world.specs.page_turns_Acts.{ActsBy}
 use Rattle.ctr_versions.specs.Engine.{SessionHeld}
-use Rattle.ctr_paged.specs.Paged.{Run}
-use Rattle.ctr_kept.specs.Turns.{state_now}
-use Rattle.ctr_txn.specs.Held.{me_in, number_drawn, run_of}
-use Rattle.ctr_txn.specs.Numbered.{NumbersHeld}
-use Rattle.ctr_txn.specs.Steps.{txn_asked}
+use Rattle.ctr_session_world.specs.paged_Paged.{Run}
+use Rattle.ctr_session_world.specs.kept_Turns.{state_now}
+use Rattle.ctr_session_world.specs.txn_Held.{me_in, number_drawn, run_of}
+use Rattle.ctr_session_world.specs.txn_Numbered.{NumbersHeld}
+use Rattle.ctr_session_world.specs.txn_Steps.{txn_asked}
 use Rattle.ctr_session_world.specs.Ready.{is_asking}
 use Rattle.ctr_session_world.specs.World.{SessionsHeld}
 use Rattle.ctr_session_world.specs.Told.{IsTold}

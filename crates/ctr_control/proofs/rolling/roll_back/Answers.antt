@@ -9,11 +9,11 @@ use Rattle.ctr_model.specs.Maps.{without}
 use Rattle.ctr_model.specs.Reply.{next_from}
 use Rattle.ctr_actions.specs.Sites.{Site, site_of}
 use Rattle.ctr_versions.specs.Engine.{SessionHeld}
-use Rattle.ctr_kept.specs.Turns.{state_now}
-use Rattle.ctr_rollback.specs.Rolling.{MayRoll, RollsTo, RollsTxns}
-use Rattle.ctr_txn.specs.Held.{me_in, run_of}
-use Rattle.ctr_txn.specs.Numbered.{NumbersHeld}
-use Rattle.ctr_txn.specs.Steps.{txn_undoing}
+use Rattle.ctr_session_world.specs.kept_Turns.{state_now}
+use Rattle.ctr_session_world.specs.ctr_rollback.Rolling.{MayRoll, RollsTo, RollsTxns}
+use Rattle.ctr_session_world.specs.txn_Held.{me_in, run_of}
+use Rattle.ctr_session_world.specs.txn_Numbered.{NumbersHeld}
+use Rattle.ctr_session_world.specs.txn_Steps.{txn_undoing}
 use Rattle.ctr_session_world.specs.World.{SessionsHeld}
 use Rattle.ctr_control.proofs.Asking.{in_neither}
 use Rattle.ctr_control.proofs.Gone.{gone_told}

@@ -3,14 +3,14 @@ use Rattle.std.specs.Prelude.{OnOk}
 use Rattle.ctr_disk.specs.declared.fault.StoreFault.{StoreFault}
 use Rattle.ctr_rec.specs.declared.record.Record.{Record}
 use Rattle.ctr_store.specs.Store.{TakesRecord, View}
-use Rattle.ctr_txn.specs.Held.{IsOneOfEight, IsWriting, TxnsHeld}
-use Rattle.ctr_txn.specs.Calls.{IsOverStore}
-use Rattle.ctr_txn.specs.Rooms.{HasItemRoom}
-use Rattle.ctr_txn.specs.Steps.{txn_undoing}
-use Rattle.ctr_rollback.specs.Rolling.{RollsTxns}
-use Rattle.ctr_rollback.specs.declared.rolling.Rolled.{Rolled}
-use Rattle.ctr_rollback.specs.declared.rolling.Rolled.TheVariants.{Undone, Back}
-use Rattle.ctr_rollback.proofs.Records.{three_ok}
+use Rattle.ctr_session_world.specs.txn_Held.{IsOneOfEight, IsWriting, TxnsHeld}
+use Rattle.ctr_session_world.specs.txn_Calls.{IsOverStore}
+use Rattle.ctr_session_world.specs.txn_Rooms.{HasItemRoom}
+use Rattle.ctr_session_world.specs.txn_Steps.{txn_undoing}
+use Rattle.ctr_session_world.specs.ctr_rollback.Rolling.{RollsTxns}
+use Rattle.ctr_session_world.specs.ctr_rollback.declared.rolling.Rolled.{Rolled}
+use Rattle.ctr_session_world.specs.ctr_rollback.declared.rolling.Rolled.TheVariants.{Undone, Back}
+use Rattle.ctr_session_world.proofs.rollback_Records.{three_ok}
 use Rattle.ctr_session_world.specs.Ready.{LeavesOver}
 use Rattle.ctr_session_world.proofs.Ready.{others_set, ready_logged, unasked_as, unasked_set}
 use Rattle.ctr_session_world.proofs.Disks.{disk_one}

@@ -2,7 +2,7 @@ use Rattle.std.proofs.Common.{◌⊎◌, Err, sym, ◌∙◌, ap, subst}
 use Rattle.ctr_disk.specs.Device.{LeavesOnly}
 use Rattle.ctr_record_effects.specs.Standing.{IsDatabaseState, StandsForDatabase}
 use Rattle.ctr_store.specs.Opening.{IsUndamaged}
-use Rattle.ctr_reading.specs.Reading.{as_told}
+use Rattle.ctr_survey.specs.reading_Reading.{as_told}
 use Rattle.ctr_survey.specs.Surveying.{survey_of}
 use Rattle.ctr_run.specs.ctr_world.Ended.{RefusesWorld}
 use Rattle.ctr_run.proofs.ctr_world.Refused.{front_of, opening_leaves, reading_leaves, told_as}

@@ -2,8 +2,8 @@ use Rattle.std.proofs.Common.{ap, Err}
 use Rattle.ctr_meta.specs.Tables.{Tables}
 use Rattle.ctr_bytes.specs.Fields.{spelled}
 use Rattle.ctr_page.specs.declared.table.TheConstants.{DROPPER_AT}
-use Rattle.ctr_record_effects.specs.Changing.{drop_record, laid_in_entry}
-use Rattle.ctr_actions.specs.Actions.{Drops}
+use Rattle.ctr_undamaged.specs.record_effects_Changing.{drop_record, laid_in_entry}
+use Rattle.ctr_page_turns.specs.actions_Actions.{Drops}
 use Rattle.ctr_ddl.proofs.dropping.drop_live.Goals as goal
 
 pub returns-in-Ok-clause-one : goal.returns-in-Ok-clause-one

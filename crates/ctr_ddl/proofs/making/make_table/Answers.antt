@@ -1,14 +1,14 @@
 use Rattle.std.proofs.Common.{◌/◌, ◌*◌, ◌%◌, ◌+◌, ◌<◌, ◌^◌, ⊎_elim, ap, Err, refl, arith, subst}
 use Rattle.ctr_meta.specs.Tables.{Tables}
-use Rattle.ctr_record_laws.specs.Owed.{OwedByCreate}
+use Rattle.ctr_page_turns.specs.record_laws_Owed.{OwedByCreate}
 use Rattle.ctr_area.specs.Changes.{ChangesEntry, new_title, empty_chains, with_title, with_firsts}
 use Rattle.ctr_page.specs.Columns.{new_entry_bytes}
-use Rattle.ctr_walk.specs.Damage.{damage_told}
-use Rattle.ctr_record_effects.specs.Changing.{create_record, laid_at}
-use Rattle.ctr_record_effects.specs.States.{area_in}
-use Rattle.ctr_catalog.specs.declared.writing.CatalogRefusal.{CatalogRefusal}
-use Rattle.ctr_catalog.specs.Writing.{MakesTable, EndsMaking}
-use Rattle.ctr_actions.specs.Actions.{Creates}
+use Rattle.ctr_page_turns.specs.walk_Damage.{damage_told}
+use Rattle.ctr_undamaged.specs.record_effects_Changing.{create_record, laid_at}
+use Rattle.ctr_page_turns.specs.record_effects_States.{area_in}
+use Rattle.ctr_undamaged.specs.catalog_CatalogRefusal.{CatalogRefusal}
+use Rattle.ctr_undamaged.specs.catalog_Writing.{MakesTable, EndsMaking}
+use Rattle.ctr_page_turns.specs.actions_Actions.{Creates}
 use Rattle.ctr_page_turns.specs.Turns.{LogsARecord}
 use Rattle.ctr_ddl.specs.declared.making.Made.TheVariants.{At}
 use Rattle.ctr_ddl.proofs.Free.{is_free, isnt_free, refused_making}

@@ -3,8 +3,8 @@ use Rattle.std.specs.Prelude.{IfOk, is_some}
 use Rattle.std.proofs.lemmas.Bool.{false≢true}
 use Rattle.ctr_types.specs.declared.statement.Statement.TheVariants as st
 use Rattle.ctr_model.specs.Refusals.{changes_schema, key_written}
-use Rattle.ctr_txn.specs.Held.{IsWriting, number_drawn}
-use Rattle.ctr_kept.specs.Turns.{state_now}
+use Rattle.ctr_control.specs.txn_Held.{IsWriting, number_drawn}
+use Rattle.ctr_control.specs.kept_Turns.{state_now}
 use Rattle.ctr_writing.specs.ctr_session_world.Told.{IsNextOf}
 use Rattle.ctr_writing.specs.ctr_session_world.World.{SessionsHeld}
 use Rattle.ctr_exec.specs.declared.runners.Stage.{Stage}

@@ -7,7 +7,7 @@ use Rattle.ctr_writing.specs.ctr_session_world.Told.{TellsOrGoesOn}
 use Rattle.ctr_types.specs.declared.tape.Reply.{Reply}
 use Rattle.ctr_control.specs.Rolling.{rolled_by}
 use Rattle.ctr_control.specs.ctr_rollback.Rolling.{RollsTo}
-use Rattle.ctr_txn.specs.Held.{number_drawn}
+use Rattle.ctr_control.specs.txn_Held.{number_drawn}
 use Rattle.ctr_exec.proofs.acting.rolled_back.Goals as goal
 
 pub returns-in-None-clause-over : goal.returns-in-None-clause-over

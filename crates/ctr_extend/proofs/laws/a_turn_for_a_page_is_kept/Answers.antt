@@ -4,11 +4,11 @@ use Rattle.ctr_model.specs.Texts.{answers}
 use Rattle.ctr_area.specs.Areas.{Title}
 use Rattle.ctr_area.specs.Sound.{IsAmong}
 use Rattle.ctr_page.specs.Damage.{chain_entry}
-use Rattle.ctr_actions.specs.Sites.{Site, site_of}
-use Rattle.ctr_actions.specs.Facts.{Fact, IsOpen, HasTable, HasBlank}
-use Rattle.ctr_actions.specs.Actions.{site_after}
-use Rattle.ctr_kept.specs.Turns.{KeepsRun, carrying}
-use Rattle.ctr_kept.proofs.Tables.{among_first, among_last, by_parts, no_blank, titles_held, carries_more, uses_more}
+use Rattle.ctr_page_turns.specs.actions_Sites.{Site, site_of}
+use Rattle.ctr_stops.specs.actions_Facts.{Fact, IsOpen, HasTable, HasBlank}
+use Rattle.ctr_page_turns.specs.actions_Actions.{site_after}
+use Rattle.ctr_stops.specs.kept_Turns.{KeepsRun, carrying}
+use Rattle.ctr_stops.proofs.kept_Tables.{among_first, among_last, by_parts, no_blank, titles_held, carries_more, uses_more}
 use Rattle.ctr_extend.specs.Keeping.{facts_on_way, way_behind}
 use Rattle.ctr_extend.proofs.Carrying.{turned, carried, blank_by, blank_way, way_held, live_state}
 use Rattle.ctr_extend.proofs.laws.a_turn_for_a_page_is_kept.Goals as goal

@@ -2,15 +2,15 @@ use Rattle.std.proofs.Common.{ℕ, ◌+◌, [], length, Err, refl, sym, ap, subs
 use Rattle.ctr_page.specs.declared.header.Header.{Header}
 use Rattle.ctr_bytes.specs.Fields.{spelled}
 use Rattle.ctr_page.specs.declared.table.TheConstants.{VERSIONS_AT}
-use Rattle.ctr_record_laws.specs.Owed.{versions_header}
-use Rattle.ctr_record_effects.specs.States.{pages_in}
+use Rattle.ctr_page_turns.specs.record_laws_Owed.{versions_header}
+use Rattle.ctr_page_turns.specs.record_effects_States.{pages_in}
 use Rattle.ctr_meta.specs.Tables.{Tables}
 use Rattle.ctr_meta.specs.declared.items.Wanted.TheVariants.{Allocation}
-use Rattle.ctr_record_effects.specs.Changing.{link_older_record, laid_in_entry}
-use Rattle.ctr_passed.specs.Logged.{IsBlankPage}
-use Rattle.ctr_actions.specs.Sites.{site_of}
-use Rattle.ctr_actions.specs.Actions.{LinksOlder, Owes, site_after}
-use Rattle.ctr_actions.specs.Facts.{HasBlank, HasNoPageBut, HoldsFact}
+use Rattle.ctr_undamaged.specs.record_effects_Changing.{link_older_record, laid_in_entry}
+use Rattle.ctr_page_turns.specs.passed_Logged.{IsBlankPage}
+use Rattle.ctr_page_turns.specs.actions_Sites.{site_of}
+use Rattle.ctr_page_turns.specs.actions_Actions.{LinksOlder, Owes, site_after}
+use Rattle.ctr_stops.specs.actions_Facts.{HasBlank, HasNoPageBut, HoldsFact}
 use Rattle.ctr_page_turns.specs.Turns.{LogsARecord}
 use Rattle.ctr_extend.specs.declared.ways.Extended.TheVariants.{Linked}
 use Rattle.ctr_extend.proofs.Steps.{moved}

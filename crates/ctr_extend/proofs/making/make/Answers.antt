@@ -2,13 +2,13 @@ use Rattle.std.proofs.Common.{◌≡◌, ℕ, ◌<◌, inl, [], ◌∷◌, Err, 
 use Rattle.ctr_page.specs.declared.header.Header.{Header}
 use Rattle.ctr_meta.specs.Tables.{Tables}
 use Rattle.ctr_page.specs.Making.{header_bytes}
-use Rattle.ctr_redo.specs.States.{State}
-use Rattle.ctr_record_effects.specs.Changing.{format_record, laid_clear}
-use Rattle.ctr_store.specs.Store.{Logs}
-use Rattle.ctr_actions.specs.Sites.{site_of}
-use Rattle.ctr_actions.specs.Actions.{Formats, site_after}
-use Rattle.ctr_actions.specs.Facts.{HasBlank, HasNoPageBut}
-use Rattle.ctr_passed.specs.Logged.{IsBlankPage}
+use Rattle.ctr_base.specs.redo_States.{State}
+use Rattle.ctr_undamaged.specs.record_effects_Changing.{format_record, laid_clear}
+use Rattle.ctr_stops.specs.store_Store.{Logs}
+use Rattle.ctr_page_turns.specs.actions_Sites.{site_of}
+use Rattle.ctr_page_turns.specs.actions_Actions.{Formats, site_after}
+use Rattle.ctr_stops.specs.actions_Facts.{HasBlank, HasNoPageBut}
+use Rattle.ctr_page_turns.specs.passed_Logged.{IsBlankPage}
 use Rattle.ctr_page_turns.specs.Turns.{LogsARecord}
 use Rattle.ctr_extend.specs.Ways.{chain_header}
 use Rattle.ctr_extend.specs.declared.ways.OnWay.TheVariants.{Made}

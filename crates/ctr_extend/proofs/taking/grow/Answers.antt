@@ -1,8 +1,8 @@
 use Rattle.std.proofs.Common.{◌<◌, [], Ok, Err, refl, sym, ap, subst}
-use Rattle.ctr_redo.specs.States.{State, grown}
-use Rattle.ctr_store.specs.Store.{View}
-use Rattle.ctr_actions.specs.Sites.{site_of}
-use Rattle.ctr_actions.specs.Facts.{HasNoPageBut, HoldsFact}
+use Rattle.ctr_base.specs.redo_States.{State, grown}
+use Rattle.ctr_stops.specs.store_Store.{View}
+use Rattle.ctr_page_turns.specs.actions_Sites.{site_of}
+use Rattle.ctr_stops.specs.actions_Facts.{HasNoPageBut, HoldsFact}
 use Rattle.ctr_extend.specs.declared.ways.Extended.TheVariants.{Grown}
 use Rattle.ctr_extend.proofs.Steps.{counts_more}
 use Rattle.ctr_extend.proofs.taking.grow.Goals as goal

@@ -2,10 +2,10 @@ use Rattle.std.proofs.Common.{◌≡◌, Err, refl, subst}
 use Rattle.std.specs.Prelude.{IfOk, IfErr}
 use Rattle.ctr_disk.specs.declared.fault.StoreFault.TheVariants.{Fault}
 use Rattle.ctr_meta.specs.Kept.{TablesKept}
-use Rattle.ctr_redo.specs.States.{State}
-use Rattle.ctr_record_effects.specs.States.{area_in}
-use Rattle.ctr_alloc.specs.Free.{IsNextFree}
-use Rattle.ctr_alloc.specs.declared.search.NextFree.TheVariants as next
+use Rattle.ctr_base.specs.redo_States.{State}
+use Rattle.ctr_page_turns.specs.record_effects_States.{area_in}
+use Rattle.ctr_undamaged.specs.alloc_Free.{IsNextFree}
+use Rattle.ctr_undamaged.specs.alloc_NextFree.TheVariants as next
 use Rattle.ctr_page_turns.specs.Turns.{Reads}
 use Rattle.ctr_extend.specs.declared.ways.OnWay.TheVariants.{Wanted}
 use Rattle.ctr_extend.specs.declared.ways.Extended.TheVariants.{Full}

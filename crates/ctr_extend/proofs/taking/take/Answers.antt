@@ -1,9 +1,9 @@
 use Rattle.std.proofs.Common.{◌/◌, ℕ, ◌<◌, [], ◌∷◌, Err, refl, sym, ap, subst}
 use Rattle.ctr_meta.specs.Tables.{Tables}
-use Rattle.ctr_record_effects.specs.Changing.{alloc_record, laid_at}
-use Rattle.ctr_actions.specs.Sites.{site_of}
-use Rattle.ctr_actions.specs.Actions.{Allocates, site_after}
-use Rattle.ctr_actions.specs.Facts.{HasPage, HasNoPageBut}
+use Rattle.ctr_undamaged.specs.record_effects_Changing.{alloc_record, laid_at}
+use Rattle.ctr_page_turns.specs.actions_Sites.{site_of}
+use Rattle.ctr_page_turns.specs.actions_Actions.{Allocates, site_after}
+use Rattle.ctr_stops.specs.actions_Facts.{HasPage, HasNoPageBut}
 use Rattle.ctr_page_turns.specs.Turns.{LogsARecord}
 use Rattle.ctr_extend.specs.declared.ways.OnWay.TheVariants.{Taken}
 use Rattle.ctr_extend.specs.declared.ways.Extended.TheVariants.{On}

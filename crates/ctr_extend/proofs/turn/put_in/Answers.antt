@@ -2,11 +2,11 @@ use Rattle.std.proofs.Common.{◌≡◌, Err, refl, sym, ◌∙◌, subst}
 use Rattle.std.specs.Prelude.{IfOk, IfErr}
 use Rattle.ctr_disk.specs.declared.fault.StoreFault.TheVariants.{Fault}
 use Rattle.ctr_meta.specs.Kept.{TablesKept}
-use Rattle.ctr_redo.specs.States.{State}
-use Rattle.ctr_record_effects.specs.States.{area_in}
-use Rattle.ctr_record_effects.specs.Standing.{IsDatabaseState}
-use Rattle.ctr_walk.specs.Damage.{damage_told}
-use Rattle.ctr_walk.specs.Tables.{first_of_chain}
+use Rattle.ctr_base.specs.redo_States.{State}
+use Rattle.ctr_page_turns.specs.record_effects_States.{area_in}
+use Rattle.ctr_page_turns.specs.record_effects_Standing.{IsDatabaseState}
+use Rattle.ctr_page_turns.specs.walk_Damage.{damage_told}
+use Rattle.ctr_page_turns.specs.walk_Tables.{first_of_chain}
 use Rattle.ctr_extend.specs.declared.ways.OnWay.TheVariants.{Taken, Made}
 use Rattle.ctr_extend.specs.declared.ways.Extended.TheVariants.{On}
 use Rattle.ctr_extend.specs.Ways.{IsOnWay}

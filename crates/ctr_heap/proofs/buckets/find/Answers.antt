@@ -3,7 +3,7 @@ use Rattle.std.specs.Int.{w64}
 use Rattle.std.proofs.lemmas.Int.{to_z-of_z}
 use Rattle.ctr_page.specs.Places.{bucket_of}
 use Rattle.ctr_page.specs.declared.checks.Chain.TheVariants.{Rows}
-use Rattle.ctr_record_effects.specs.States.{pages_in, area_in}
+use Rattle.ctr_passed.specs.record_effects_States.{pages_in, area_in}
 use Rattle.ctr_walk.specs.Damage.{damage_told}
 use Rattle.ctr_walk.proofs.Ends.{told_there}
 use Rattle.ctr_walk.proofs.Said.{told_finds}

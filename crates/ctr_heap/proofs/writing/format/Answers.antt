@@ -2,12 +2,12 @@ use Rattle.std.proofs.Common.{◌≡◌, [], ◌∷◌, length, refl, sym, ap, �
 use Rattle.ctr_rec.specs.declared.record.Overlay.{Overlay}
 use Rattle.ctr_rec.specs.declared.record.Record.{Record}
 use Rattle.ctr_rec.specs.declared.record.Record.TheVariants.{Format}
-use Rattle.ctr_redo.specs.States.{page_at}
+use Rattle.ctr_passed.specs.redo_States.{page_at}
 use Rattle.ctr_page.specs.Making.{header_bytes}
-use Rattle.ctr_record_effects.specs.Changing.{laid_clear, format_record}
-use Rattle.ctr_actions.specs.Sites.{site_of}
-use Rattle.ctr_actions.specs.Actions.{Formats, site_after}
-use Rattle.ctr_store.specs.Store.{MayLog, Logs}
+use Rattle.ctr_walk.specs.record_effects_Changing.{laid_clear, format_record}
+use Rattle.ctr_passed.specs.actions_Sites.{site_of}
+use Rattle.ctr_passed.specs.actions_Actions.{Formats, site_after}
+use Rattle.ctr_walk.specs.store_Store.{MayLog, Logs}
 use Rattle.ctr_walk.specs.OneRecord.{LogsOne}
 use Rattle.ctr_walk.proofs.Records.{both_ok}
 use Rattle.ctr_walk.proofs.Limits.{below_limit}

@@ -3,13 +3,13 @@ use Rattle.std.specs.Prelude.{IfSome}
 use Rattle.ctr_rec.specs.declared.record.Overlay.{Overlay}
 use Rattle.ctr_rec.specs.declared.record.Record.{Record}
 use Rattle.ctr_rec.specs.declared.record.Record.TheVariants.{Link}
-use Rattle.ctr_redo.specs.States.{step, page_at}
+use Rattle.ctr_passed.specs.redo_States.{step, page_at}
 use Rattle.ctr_bytes.specs.Fields.{spelled}
-use Rattle.ctr_record_effects.specs.States.{pages_in}
-use Rattle.ctr_record_effects.specs.Changing.{laid_in_entry}
-use Rattle.ctr_actions.specs.Sites.{site_of}
-use Rattle.ctr_actions.specs.Actions.{Links, LinksOlder, site_after}
-use Rattle.ctr_store.specs.Store.{MayLog, Logs}
+use Rattle.ctr_passed.specs.record_effects_States.{pages_in}
+use Rattle.ctr_walk.specs.record_effects_Changing.{laid_in_entry}
+use Rattle.ctr_passed.specs.actions_Sites.{site_of}
+use Rattle.ctr_passed.specs.actions_Actions.{Links, LinksOlder, site_after}
+use Rattle.ctr_walk.specs.store_Store.{MayLog, Logs}
 use Rattle.ctr_walk.specs.OneRecord.{LogsOne}
 use Rattle.ctr_walk.proofs.Records.{both_ok}
 use Rattle.ctr_heap.specs.Writing.{front_place, front_record, front_action, IsOfTable}

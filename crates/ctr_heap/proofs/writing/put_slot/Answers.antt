@@ -2,17 +2,17 @@ use Rattle.std.proofs.Common.{◌≡◌, [], ◌∷◌, length, Some, sym, ap, �
 use Rattle.ctr_rec.specs.declared.record.Record.{Record}
 use Rattle.ctr_rec.specs.declared.record.Record.TheVariants.{Row}
 use Rattle.ctr_meta.specs.Effects.{one_head_less, one_head_more}
-use Rattle.ctr_redo.specs.States.{step, page_at}
+use Rattle.ctr_passed.specs.redo_States.{step, page_at}
 use Rattle.ctr_page.specs.Places.{slot_size}
 use Rattle.ctr_page.specs.Making.{slot_bytes, IsSlot}
-use Rattle.ctr_area.specs.Reading.{slot_said, columns_on}
-use Rattle.ctr_area.specs.Changes.{with_slot}
-use Rattle.ctr_record_laws.specs.Owed.{loses_head}
-use Rattle.ctr_record_effects.specs.States.{pages_in, area_in}
-use Rattle.ctr_record_effects.specs.Changing.{laid_on_place}
-use Rattle.ctr_actions.specs.Sites.{site_of}
-use Rattle.ctr_actions.specs.Actions.{Writes, site_after}
-use Rattle.ctr_store.specs.Store.{Logs}
+use Rattle.ctr_passed.specs.area_Reading.{slot_said, columns_on}
+use Rattle.ctr_passed.specs.area_Changes.{with_slot}
+use Rattle.ctr_passed.specs.record_laws_Owed.{loses_head}
+use Rattle.ctr_passed.specs.record_effects_States.{pages_in, area_in}
+use Rattle.ctr_walk.specs.record_effects_Changing.{laid_on_place}
+use Rattle.ctr_passed.specs.actions_Sites.{site_of}
+use Rattle.ctr_passed.specs.actions_Actions.{Writes, site_after}
+use Rattle.ctr_walk.specs.store_Store.{Logs}
 use Rattle.ctr_walk.proofs.Records.{both_ok}
 use Rattle.ctr_walk.proofs.Limits.{below_limit}
 use Rattle.ctr_heap.proofs.OneRecord.{slot_laid}

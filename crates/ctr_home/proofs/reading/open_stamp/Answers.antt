@@ -1,5 +1,5 @@
 use Rattle.std.proofs.Common.{◌≡◌, ◌∙◌, ◌+◌, ◌≤◌, ℕ, length, ap, arith}
-use Rattle.ctr_types.specs.declared.file.File.{File}
+use Rattle.ctr_disk.specs.types_File.{File}
 use Rattle.ctr_disk.specs.Image.{content, section}
 use Rattle.ctr_home.specs.Blocks.{file_of, home_len, home_place}
 use Rattle.ctr_home.proofs.HomeLemmas.{stamp_is}

@@ -1,5 +1,5 @@
 use Rattle.std.proofs.Common.{◌≡◌, ◌∙◌, ◌∷◌, [], ◌+◌, ℕ, List, length, ap, subst, sym, inl}
-use Rattle.ctr_types.specs.declared.file.File.{File}
+use Rattle.ctr_disk.specs.types_File.{File}
 use Rattle.ctr_disk.specs.declared.disk.Disk.{Ghosts}
 use Rattle.ctr_disk.specs.Image.{Image, content, TornImage, write_of}
 use Rattle.ctr_disk.specs.Crash.{Tears}

@@ -1,5 +1,5 @@
 use Rattle.std.proofs.Common.{◌≡◌, ◌∙◌, ◌∷◌, [], ◌<◌, ℕ, length, get_or, ap, subst}
-use Rattle.ctr_types.specs.declared.file.File.{File}
+use Rattle.ctr_disk.specs.types_File.{File}
 use Rattle.ctr_disk.specs.Image.{Image, content, TornImage, write_of}
 use Rattle.ctr_home.specs.Blocks.{file_of, home_place}
 use Rattle.ctr_home.specs.Writing.{KeepsHome, IsShut}

@@ -1,8 +1,8 @@
 use Rattle.std.proofs.Common.{◌≡◌, ◌∙◌, ◌+◌, ◌^◌, ◌<◌, length, drop, ap, sym, refl, arith}
 use Rattle.std.specs.Prelude.{IsTrue}
 use Rattle.std.proofs.lemmas.Result.{err_from_is_err_and}
-use Rattle.ctr_disk.specs.Image.{Image, content, section}
-use Rattle.ctr_bytes.proofs.FieldLaws.{field_fits}
+use Rattle.ctr_home.specs.disk_Image.{Image, content, section}
+use Rattle.ctr_home.proofs.bytes_FieldLaws.{field_fits}
 use Rattle.ctr_log.specs.Batch.{OpensBatch}
 use Rattle.ctr_home.specs.Checks.{judged}
 use Rattle.ctr_log.specs.LogChecks.{gate_checks, frame_bytes}

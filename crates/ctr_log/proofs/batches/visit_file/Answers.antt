@@ -1,10 +1,10 @@
 use Rattle.std.proofs.Common.{◌≡◌, ◌≢◌, ◌∙◌, ◌+◌, ◌++◌, [], ◌∷◌, ℕ, List, length, drop, get_or, ap, subst, sym, refl, arith, Ok}
 use Rattle.std.specs.Prelude.{IsTrue, Some}
 use Rattle.std.proofs.lemmas.Result.{err_from_is_err_and}
-use Rattle.ctr_disk.specs.Image.{content}
-use Rattle.ctr_disk.specs.declared.fault.StoreFault.TheVariants.{Fault}
+use Rattle.ctr_home.specs.disk_Image.{content}
+use Rattle.ctr_home.specs.disk_StoreFault.TheVariants.{Fault}
 use Rattle.ctr_log.specs.declared.reading.ReadError.TheVariants.{Store}
-use Rattle.ctr_disk.proofs.Moments.{reads_joined}
+use Rattle.ctr_home.proofs.disk_Moments.{reads_joined}
 use Rattle.ctr_log.specs.Reading.{HasSome, HasFrames, RefusesOrFails}
 use Rattle.ctr_log.specs.declared.batches.Batch.{Batch}
 use Rattle.ctr_log.specs.Batch.{FindsBatch, OpensBatch, IsRead, IsWholeBatch}

@@ -1,7 +1,7 @@
 use Rattle.std.proofs.Common.{◌≡◌, ◌*◌, ◌+◌, ◌-◌, ◌^◌, ◌≤◌, ◌<◌, List, length, get_or}
 use Rattle.std.specs.Prelude.{IsTrue}
-use Rattle.ctr_disk.specs.Image.{content}
-use Rattle.ctr_disk.specs.Device.{OnlyReads}
+use Rattle.ctr_home.specs.disk_Image.{content}
+use Rattle.ctr_home.specs.disk_Device.{OnlyReads}
 use Rattle.ctr_log.specs.declared.visitor.Visit.{Visit}
 use Rattle.ctr_log.specs.Visits.{IsGiven, GivesSome}
 use Rattle.ctr_log.proofs.BatchLemmas.{SoFar}

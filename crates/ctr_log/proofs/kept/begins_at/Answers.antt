@@ -1,6 +1,6 @@
 use Rattle.std.proofs.Common.{◌≡◌, ◌∙◌, ◌==◌, sym, ap, get_or, ℕ}
-use Rattle.ctr_disk.specs.Image.{content}
-use Rattle.ctr_bytes.specs.Fields.{field}
+use Rattle.ctr_home.specs.disk_Image.{content}
+use Rattle.ctr_home.specs.bytes_Fields.{field}
 use Rattle.ctr_log.proofs.KeptReading.{first_read, begins_test}
 use Rattle.ctr_log.proofs.kept.begins_at.Goals as goal
 

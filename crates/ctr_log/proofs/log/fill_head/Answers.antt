@@ -1,6 +1,6 @@
 use Rattle.std.proofs.Common.{◌≡◌, ◌∙◌, ◌-◌, [], ◌++◌, ℕ, List, length, drop, ap, sym, refl, arith, length-append, length-drop}
-use Rattle.ctr_bytes.specs.Fields.{spelled, with_field}
-use Rattle.ctr_bytes.proofs.FieldLaws.{put_next, length-spelled}
+use Rattle.ctr_home.specs.bytes_Fields.{spelled, with_field}
+use Rattle.ctr_home.proofs.bytes_FieldLaws.{put_next, length-spelled}
 use Rattle.ctr_log.proofs.log.fill_head.Goals as goal
 
 -- the three fields, put one behind another

@@ -1,8 +1,8 @@
 use Rattle.std.proofs.Common.{◌<◌, length, get_or, subst}
-use Rattle.ctr_disk.specs.Image.{Image, content, TornImage}
-use Rattle.ctr_disk.specs.TornLaws.{torn_nothing}
+use Rattle.ctr_home.specs.disk_Image.{Image, content, TornImage}
+use Rattle.ctr_home.specs.disk_TornLaws.{torn_nothing}
 use Rattle.ctr_log.specs.Kept.{StaysDropped}
-use Rattle.ctr_disk.proofs.Moments.{torn_from, read_then, still_only}
+use Rattle.ctr_home.proofs.disk_Moments.{torn_from, read_then, still_only}
 use Rattle.ctr_home.proofs.WriteLemmas.{gate_open}
 use Rattle.ctr_log.proofs.StartLemmas.{stays_by_torn, stays_same}
 use Rattle.ctr_log.proofs.log.shut_first.Goals as goal

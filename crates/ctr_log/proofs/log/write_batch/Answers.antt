@@ -1,8 +1,8 @@
 use Rattle.std.proofs.Common.{◌+◌, length}
-use Rattle.ctr_disk.specs.Image.{Image}
+use Rattle.ctr_home.specs.disk_Image.{Image}
 use Rattle.ctr_log.specs.Logs.{IsBeforeOrAfter, IsAfter}
-use Rattle.ctr_disk.proofs.Moments.{joined, on_ok}
-use Rattle.ctr_disk.proofs.Moments.{torn_from}
+use Rattle.ctr_home.proofs.disk_Moments.{joined, on_ok}
+use Rattle.ctr_home.proofs.disk_Moments.{torn_from}
 use Rattle.ctr_log.proofs.LogLemmas.{behind_torn, gate_torn, gate_written}
 use Rattle.ctr_log.proofs.log.write_batch.Goals as goal
 

@@ -1,9 +1,9 @@
 use Rattle.std.proofs.Common.{◌≡◌, ◌∙◌}
-use Rattle.ctr_disk.specs.Image.{Image}
-use Rattle.ctr_disk.specs.Crash.{Within}
+use Rattle.ctr_home.specs.disk_Image.{Image}
+use Rattle.ctr_home.specs.disk_Crash.{Within}
 use Rattle.ctr_log.specs.Fresh.{SameRoot, AreEmptied}
-use Rattle.ctr_disk.specs.Device.{LeavesOnly, IsSettled}
-use Rattle.ctr_disk.proofs.Moments.{joined, on_ok, one_call}
+use Rattle.ctr_home.specs.disk_Device.{LeavesOnly, IsSettled}
+use Rattle.ctr_home.proofs.disk_Moments.{joined, on_ok, one_call}
 use Rattle.ctr_log.proofs.InitLemmas.{same_root, same_root_by_log_a, same_root_by_log_b, emptied}
 use Rattle.ctr_log.proofs.making.empty_logs.Given.{Over}
 use Rattle.ctr_log.proofs.making.empty_logs.Goals.{After-write-2}

@@ -1,11 +1,11 @@
 use Rattle.std.proofs.Common.{◌∷◌, [], refl}
-use Rattle.ctr_disk.specs.Image.{Image}
+use Rattle.ctr_home.specs.disk_Image.{Image}
 use Rattle.ctr_types.specs.declared.file.File.TheVariants.{LogA}
-use Rattle.ctr_bytes.specs.Fields.{spelled}
+use Rattle.ctr_home.specs.bytes_Fields.{spelled}
 use Rattle.ctr_log.specs.Logs.{IsBeforeOrAfter}
 use Rattle.ctr_log.specs.Fresh.{SameRoot, LogsAreReady, first_checkpoint}
-use Rattle.ctr_disk.proofs.Moments.{weaker, joined, on_ok}
-use Rattle.ctr_disk.proofs.Moments.{settled_by}
+use Rattle.ctr_home.proofs.disk_Moments.{weaker, joined, on_ok}
+use Rattle.ctr_home.proofs.disk_Moments.{settled_by}
 use Rattle.ctr_log.proofs.InitLemmas.{fresh_extends, log_step, log_ready}
 use Rattle.ctr_log.proofs.making.make_logs.Goals as goal
 

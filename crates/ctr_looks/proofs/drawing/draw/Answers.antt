@@ -5,7 +5,7 @@ use Rattle.std.proofs.lemmas.Bool.{false≢true}
 use Rattle.ctr_disk.proofs.Moments.{on_ok}
 use Rattle.ctr_versions.specs.Engine.{SessionHeld}
 use Rattle.ctr_versions.proofs.Keys.{some_is}
-use Rattle.ctr_txn.specs.Held.{TxnHeld, TxnsHeld, IsReading, txn_of}
+use Rattle.ctr_session_world.specs.txn_Held.{TxnHeld, TxnsHeld, IsReading, txn_of}
 use Rattle.ctr_looks.specs.Granting.{DrawsNext, HasNumber}
 use Rattle.ctr_session_world.proofs.Numbers.{none_or_some}
 use Rattle.ctr_session_world.proofs.Ready.{ready_as_was}

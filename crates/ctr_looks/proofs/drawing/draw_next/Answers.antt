@@ -6,12 +6,12 @@ use Rattle.ctr_meta.specs.Needs.{needs}
 use Rattle.ctr_meta.specs.Tables.{Tables}
 use Rattle.ctr_rec.specs.declared.record.Record.TheVariants.{Begin}
 use Rattle.ctr_record_effects.specs.States.{pages_in}
-use Rattle.ctr_actions.specs.Actions.{Begins, Owes, site_after}
-use Rattle.ctr_actions.specs.Sites.{site_of}
-use Rattle.ctr_paged.specs.Moving.{held_as}
+use Rattle.ctr_wishes.specs.actions_Actions.{Begins, Owes, site_after}
+use Rattle.ctr_wishes.specs.actions_Sites.{site_of}
+use Rattle.ctr_session_world.specs.paged_Moving.{held_as}
 use Rattle.ctr_store.specs.Store.{Logs}
-use Rattle.ctr_txn.specs.Held.{TxnHeld, run_of}
-use Rattle.ctr_txn.specs.Steps.{txn_drawn}
+use Rattle.ctr_session_world.specs.txn_Held.{TxnHeld, run_of}
+use Rattle.ctr_session_world.specs.txn_Steps.{txn_drawn}
 use Rattle.ctr_session_world.proofs.ctr_told.ctr_rollback.Records.{refused_by_disk}
 use Rattle.ctr_session_world.proofs.Ready.{others_set, own_set, ready_logged, unasked_as}
 use Rattle.ctr_session_world.proofs.Disks.{disk_done, disk_failed, disk_one}

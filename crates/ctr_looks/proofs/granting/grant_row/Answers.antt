@@ -7,7 +7,7 @@ use Rattle.ctr_legal.proofs.Keep.{grants as granted_by}
 use Rattle.ctr_redo.specs.States.{State as Stored}
 use Rattle.ctr_record_effects.specs.Standing.{IsDatabaseState}
 use Rattle.ctr_store.specs.Store.{View}
-use Rattle.ctr_kept.specs.Turns.{state_now}
+use Rattle.ctr_session_world.specs.kept_Turns.{state_now}
 use Rattle.ctr_session_world.specs.World.{SessionsHeld, names_in}
 use Rattle.ctr_looks.specs.Granting.{KeepsSessions}
 use Rattle.ctr_looks.proofs.Granted.{row_keeps_schema, row_locks_first}

@@ -1,6 +1,6 @@
 use Rattle.ctr_types.specs.declared.tape.Reply.TheVariants as reply
 use Rattle.ctr_types.specs.declared.tape.Refusal.TheVariants as refusal
-use Rattle.ctr_kept.specs.Turns.{state_now}
+use Rattle.ctr_session_world.specs.kept_Turns.{state_now}
 use Rattle.ctr_session_world.proofs.Resting.{refused_as, tables_roomy}
 use Rattle.ctr_session_world.proofs.Standing.{comes}
 use Rattle.ctr_looks.proofs.Unrefused.{in_turn, wants}

@@ -8,13 +8,13 @@ use Rattle.ctr_versions.specs.Engine.{SessionHeld}
 use Rattle.ctr_area.specs.Sound.{IsAmong}
 use Rattle.ctr_redo.specs.States.{State as Stored}
 use Rattle.ctr_record_effects.specs.States.{area_in}
-use Rattle.ctr_actions.specs.Facts.{Fact, HasTable}
-use Rattle.ctr_actions.specs.Sites.{Site}
-use Rattle.ctr_paged.specs.Paged.{Run}
-use Rattle.ctr_paged.specs.Moving.{held_as}
-use Rattle.ctr_txn.specs.Held.{run_of}
-use Rattle.ctr_kept.specs.Walk.{Mind}
-use Rattle.ctr_kept.specs.Turns.{carrying, drawn_mind, state_now, telling}
+use Rattle.ctr_session_world.specs.actions_Facts.{Fact, HasTable}
+use Rattle.ctr_wishes.specs.actions_Sites.{Site}
+use Rattle.ctr_session_world.specs.paged_Paged.{Run}
+use Rattle.ctr_session_world.specs.paged_Moving.{held_as}
+use Rattle.ctr_session_world.specs.txn_Held.{run_of}
+use Rattle.ctr_session_world.specs.kept_Walk.{Mind}
+use Rattle.ctr_session_world.specs.kept_Turns.{carrying, drawn_mind, state_now, telling}
 use Rattle.ctr_session_world.specs.ctr_told.Turning.{facts_idle, TellsOf}
 use Rattle.ctr_session_world.proofs.Numbers.{idle_in}
 use Rattle.ctr_looks.proofs.Granted.{grants, idle_reader}

@@ -1,4 +1,4 @@
-use Rattle.ctr_kept.specs.Turns.{state_now}
+use Rattle.ctr_session_world.specs.kept_Turns.{state_now}
 use Rattle.ctr_session_world.specs.World.{names_in}
 use Rattle.ctr_looks.proofs.grants.room_shows_the_same.Goals as goal
 

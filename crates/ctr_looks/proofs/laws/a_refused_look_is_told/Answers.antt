@@ -2,8 +2,8 @@ use Rattle.std.proofs.Common.{◌≡◌, Option, Some, None, refl}
 use Rattle.ctr_types.specs.declared.tape.Reply.TheVariants as reply
 use Rattle.ctr_model.specs.declared.state.Transaction.{Transaction}
 use Rattle.ctr_model.specs.State.{transaction_of}
-use Rattle.ctr_kept.specs.Turns.{state_now, telling}
-use Rattle.ctr_stops.specs.World.{KeepsWorld}
+use Rattle.ctr_session_world.specs.kept_Turns.{state_now, telling}
+use Rattle.ctr_session_world.specs.stops_World.{KeepsWorld}
 use Rattle.ctr_session_world.proofs.Resting.{refused_told}
 use Rattle.ctr_session_world.proofs.Standing.{comes}
 use Rattle.ctr_looks.proofs.Unrefused.{in_turn}

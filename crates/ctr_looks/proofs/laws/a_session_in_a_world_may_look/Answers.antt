@@ -1,12 +1,12 @@
 use Rattle.std.proofs.Common.{List, ℕ, refl, sym, ◌∙◌, ap, subst}
-use Rattle.ctr_actions.specs.Sites.{site_of}
-use Rattle.ctr_paged.specs.Paged.{Run}
-use Rattle.ctr_paged.specs.Shown.{IsShown}
+use Rattle.ctr_wishes.specs.actions_Sites.{site_of}
+use Rattle.ctr_session_world.specs.paged_Paged.{Run}
+use Rattle.ctr_wishes.specs.paged_Shown.{IsShown}
 use Rattle.ctr_locks.specs.Held.{LocksOfSession}
 use Rattle.ctr_locks.specs.Shows.{ShowsKeyLocks}
-use Rattle.ctr_kept.specs.Turns.{state_now}
-use Rattle.ctr_kept.proofs.Walking.{keeps_reached}
-use Rattle.ctr_txn.specs.Held.{run_of, txn_of}
+use Rattle.ctr_session_world.specs.kept_Turns.{state_now}
+use Rattle.ctr_session_world.proofs.kept_Walking.{keeps_reached}
+use Rattle.ctr_session_world.specs.txn_Held.{run_of, txn_of}
 use Rattle.ctr_asking.specs.Asking.{AreOfTables}
 use Rattle.ctr_session_world.specs.World.{names_in}
 use Rattle.ctr_looks.proofs.Looking.{of_tables}

@@ -3,7 +3,7 @@ use Rattle.std.specs.Option.{option_copied}
 use Rattle.std.proofs.lemmas.Bool.{false≢true}
 use Rattle.ctr_types.specs.declared.tape.Act.TheVariants as act
 use Rattle.ctr_model.specs.declared.state.State.{State}
-use Rattle.ctr_kept.specs.Walk.{Mind}
+use Rattle.ctr_session_world.specs.kept_Walk.{Mind}
 use Rattle.ctr_asking.specs.declared.asker.Answer.{Answer}
 use Rattle.ctr_asking.specs.declared.asker.Answer.TheVariants as answer
 use Rattle.ctr_looks.specs.declared.taking.RowAt.{RowAt}

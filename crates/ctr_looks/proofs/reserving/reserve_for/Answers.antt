@@ -1,9 +1,9 @@
 use Rattle.std.proofs.Common.{◌≡◌, true, Some, ℕ, ◌≤◌, ◌+◌, refl, sym, ◌∙◌, ap, subst, arith}
 use Rattle.ctr_meta.specs.Tables.{Tables}
-use Rattle.ctr_walk.specs.OneRecord.{HasRoomForOne}
-use Rattle.ctr_txn.specs.Held.{TxnsHeld, run_of, txn_of}
-use Rattle.ctr_txn.specs.Rooms.{items_kept}
-use Rattle.ctr_txn.specs.Steps.{txn_room}
+use Rattle.ctr_session_world.specs.walk_OneRecord.{HasRoomForOne}
+use Rattle.ctr_session_world.specs.txn_Held.{TxnsHeld, run_of, txn_of}
+use Rattle.ctr_session_world.specs.txn_Rooms.{items_kept}
+use Rattle.ctr_session_world.specs.txn_Steps.{txn_room}
 use Rattle.ctr_looks.proofs.Rooms.{still_inside}
 use Rattle.ctr_session_world.proofs.Ready.{others_same, others_set, own_set, ready_unlogged, same_but, unasked_as, unasked_same}
 use Rattle.ctr_session_world.proofs.Standing.{some_of}

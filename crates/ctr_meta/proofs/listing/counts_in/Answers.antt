@@ -1,5 +1,5 @@
 use Rattle.std.proofs.Common.{◌≡◌, ◌+◌, ◌*◌, ℕ, List, sym, ap, ◌∙◌, arith, rules}
-use Rattle.ctr_bytes.specs.Fields.{field}
+use Rattle.ctr_rec.specs.bytes_Fields.{field}
 use Rattle.ctr_rec.specs.Members.{pairs_from, items_from, behind_pairs, slog_at}
 use Rattle.ctr_meta.proofs.ListedFits.{Reads, reads}
 use Rattle.ctr_meta.proofs.listing.counts_in.Goals as goal

@@ -1,6 +1,6 @@
 use Rattle.std.proofs.Common.{◌∙◌, ap}
-use Rattle.ctr_versions.specs.Chains.{value_seen, by}
-use Rattle.ctr_area.specs.Images.{is_committed_in}
+use Rattle.ctr_record_laws.specs.versions_Chains.{value_seen, by}
+use Rattle.ctr_record_laws.specs.area_Images.{is_committed_in}
 use Rattle.ctr_names.proofs.Names.{names_here}
 use Rattle.ctr_names.proofs.Ranked.{found_shows, none_shows}
 use Rattle.ctr_names.proofs.finding.what_stands_at_a_number_is_shown.Goals as goal

@@ -1,5 +1,5 @@
 use Rattle.std.proofs.Common.{◌≡◌, ◌<◌, ℕ, ⊎_elim, inl, inr, sym, ◌∙◌, subst, arith}
-use Rattle.ctr_area.specs.Images.{is_committed_in}
+use Rattle.ctr_record_laws.specs.area_Images.{is_committed_in}
 use Rattle.ctr_names.specs.Shape.{AllVersionsPass, HasOwnInFront}
 use Rattle.ctr_names.proofs.Names.{names_here}
 use Rattle.ctr_names.proofs.Owner.{owner, shape, settled_here, settled_committed}

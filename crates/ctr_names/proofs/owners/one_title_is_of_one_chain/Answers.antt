@@ -1,6 +1,6 @@
 use Rattle.std.proofs.Common.{refl}
-use Rattle.ctr_area.specs.Changes.{with_title}
-use Rattle.ctr_area.specs.Images.{name_chain}
+use Rattle.ctr_record_laws.specs.area_Changes.{with_title}
+use Rattle.ctr_record_laws.specs.area_Images.{name_chain}
 use Rattle.ctr_names.proofs.Catalog.{title_set}
 use Rattle.ctr_names.proofs.owners.one_title_is_of_one_chain.Goals as goal
 

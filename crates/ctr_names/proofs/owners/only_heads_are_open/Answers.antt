@@ -1,6 +1,6 @@
 use Rattle.std.proofs.Common.{sym, subst}
-use Rattle.ctr_versions.specs.Chains.{Behind}
-use Rattle.ctr_area.specs.Images.{is_committed_in}
+use Rattle.ctr_record_laws.specs.versions_Chains.{Behind}
+use Rattle.ctr_record_laws.specs.area_Images.{is_committed_in}
 use Rattle.ctr_names.proofs.Names.{names_here}
 use Rattle.ctr_names.proofs.Whole.{all_drawn, chain_behind, rows_behind}
 use Rattle.ctr_names.proofs.owners.only_heads_are_open.Goals as goal

@@ -1,5 +1,5 @@
 use Rattle.std.proofs.Common.{refl}
-use Rattle.ctr_area.specs.Images.{is_committed_in}
+use Rattle.ctr_record_laws.specs.area_Images.{is_committed_in}
 use Rattle.ctr_names.proofs.Names.{rows_shown, is_ordered, own_tables}
 use Rattle.ctr_names.proofs.owners.the_rows_of_an_image_are_shown.Goals as goal
 

@@ -1,5 +1,5 @@
 use Rattle.ctr_page.specs.Making.{PutsBytes}
-use Rattle.ctr_bytes.specs.Fields.{spelled}
+use Rattle.ctr_rec.specs.bytes_Fields.{spelled}
 use Rattle.std.proofs.Common.{subst}
 use Rattle.ctr_page.proofs.Puts.{puts_more}
 use Rattle.ctr_page.proofs.entry.put_entry.Goals as goal

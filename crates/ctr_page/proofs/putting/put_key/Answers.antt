@@ -1,7 +1,7 @@
 use Rattle.std.proofs.Common.{◌∙◌, ap, w64}
 use Rattle.std.proofs.lemmas.Int.{to_z-of_z}
 use Rattle.std.specs.Int.{cast_unsigned}
-use Rattle.ctr_bytes.specs.Fields.{with_field}
+use Rattle.ctr_rec.specs.bytes_Fields.{with_field}
 use Rattle.ctr_page.proofs.Puts.{field_put}
 use Rattle.ctr_page.proofs.putting.put_key.Goals as goal
 

@@ -1,9 +1,9 @@
 use Rattle.std.proofs.Common.{◌≡◌, Ok, sym, subst}
 use Rattle.ctr_meta.specs.Needs.{needs}
 use Rattle.ctr_meta.specs.Tables.{Tables}
-use Rattle.ctr_record_effects.specs.States.{pages_in}
-use Rattle.ctr_actions.specs.Sites.{site_of}
-use Rattle.ctr_actions.specs.Records.{record_of}
+use Rattle.ctr_walk.specs.record_effects_States.{pages_in}
+use Rattle.ctr_passed.specs.actions_Sites.{site_of}
+use Rattle.ctr_passed.specs.actions_Records.{record_of}
 use Rattle.ctr_page_turns.proofs.Why.{by_disk}
 use Rattle.ctr_page_turns.proofs.refusing.a_record_is_refused_by_the_disk_alone.Goals as goal
 

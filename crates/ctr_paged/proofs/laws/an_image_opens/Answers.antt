@@ -1,5 +1,5 @@
 use Rattle.ctr_actions.specs.ctr_record_effects.States.{pages_in}
-use Rattle.ctr_record_laws.proofs.Bounds.{pages_bounded}
+use Rattle.ctr_actions.proofs.record_laws_Bounds.{pages_bounded}
 use Rattle.ctr_actions.specs.Sites.{site_of}
 use Rattle.ctr_paged.proofs.Opening.{shown_opened}
 use Rattle.ctr_paged.proofs.laws.an_image_opens.Goals as goal

@@ -1,9 +1,9 @@
 use Rattle.std.proofs.Common.{◌∙◌, ap, refl, replicate, ℕ, List}
-use Rattle.ctr_page.specs.Making.{header_bytes}
-use Rattle.ctr_page.specs.Reading.{put_over}
-use Rattle.ctr_record_effects.specs.States.{pages_in}
-use Rattle.ctr_record_effects.specs.Changing.{format_record}
-use Rattle.ctr_record_effects.proofs.Laid.{clear_laid}
+use Rattle.ctr_actions.specs.page_Making.{header_bytes}
+use Rattle.ctr_actions.specs.page_Reading.{put_over}
+use Rattle.ctr_actions.specs.ctr_record_effects.States.{pages_in}
+use Rattle.ctr_actions.specs.ctr_record_effects.Changing.{format_record}
+use Rattle.ctr_actions.proofs.record_effects_Laid.{clear_laid}
 use Rattle.ctr_passed.proofs.Apart.{page_there}
 use Rattle.ctr_passed.proofs.Apart.{page_apart}
 use Rattle.ctr_passed.proofs.checks.a_formatted_page_is_blank.Goals as goal

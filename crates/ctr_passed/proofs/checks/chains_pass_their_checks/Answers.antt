@@ -1,9 +1,9 @@
 use Rattle.std.proofs.Common.{◌+◌, ◌*◌, refl, ◌∙◌, arith}
 use Rattle.ctr_bytes.specs.Fields.{spelled}
 use Rattle.ctr_bytes.proofs.FieldLaws.{length-spelled}
-use Rattle.ctr_redo.specs.States.{step}
-use Rattle.ctr_record_effects.specs.States.{pages_in, area_in}
-use Rattle.ctr_record_effects.specs.Changing.{link_record, link_older_record, unlink_record, unlink_older_record}
+use Rattle.ctr_actions.specs.ctr_redo.States.{step}
+use Rattle.ctr_actions.specs.ctr_record_effects.States.{pages_in, area_in}
+use Rattle.ctr_actions.specs.ctr_record_effects.Changing.{link_record, link_older_record, unlink_record, unlink_older_record}
 use Rattle.ctr_passed.proofs.Apart.{entry_lies}
 use Rattle.ctr_passed.proofs.Entries.{first_laid, four_bytes}
 use Rattle.ctr_passed.proofs.Blank.{blank_rows, blank_versions}

@@ -1,11 +1,11 @@
 use Rattle.std.proofs.Common.{◌+◌, ◌*◌, ◌/◌, ◌%◌, ℕ, List, refl, sym, ◌∙◌, ap, subst, arith}
-use Rattle.ctr_page.specs.Columns.{new_entry_bytes}
-use Rattle.ctr_page.specs.Damage.{entry_check}
-use Rattle.ctr_page.specs.Reading.{put_over}
-use Rattle.ctr_area.specs.Checked.{Passes}
-use Rattle.ctr_record_effects.specs.States.{pages_in}
-use Rattle.ctr_record_effects.specs.Changing.{create_record, uncreate_record, drop_record, undrop_record}
-use Rattle.ctr_record_effects.proofs.Laid.{bytes_laid}
+use Rattle.ctr_actions.specs.page_Columns.{new_entry_bytes}
+use Rattle.ctr_actions.specs.page_Damage.{entry_check}
+use Rattle.ctr_actions.specs.page_Reading.{put_over}
+use Rattle.ctr_actions.specs.area_Checked.{Passes}
+use Rattle.ctr_actions.specs.ctr_record_effects.States.{pages_in}
+use Rattle.ctr_actions.specs.ctr_record_effects.Changing.{create_record, uncreate_record, drop_record, undrop_record}
+use Rattle.ctr_actions.proofs.record_effects_Laid.{bytes_laid}
 use Rattle.ctr_passed.proofs.Apart.{page_there}
 use Rattle.ctr_passed.proofs.Entries.{dropper_laid, state_laid}
 use Rattle.ctr_passed.proofs.Fresh.{new_entry_passes}

@@ -1,5 +1,5 @@
 use Rattle.std.proofs.Common.{◌≤◌, ◌<◌, sym, subst}
-use Rattle.ctr_area.specs.Chains.{pages_bound}
+use Rattle.ctr_actions.specs.area_Chains.{pages_bound}
 use Rattle.ctr_actions.specs.Sites.{Site, site_of}
 use Rattle.ctr_passed.proofs.Sound.{drawn_after, counted_after, sound_grown}
 use Rattle.ctr_passed.proofs.laws.a_sound_state_stays_sound.Goals as goal

@@ -1,6 +1,6 @@
 use Rattle.std.proofs.Common.{sym, subst}
-use Rattle.ctr_record_effects.specs.States.{pages_in}
-use Rattle.ctr_record_laws.proofs.Bounds.{pages_bounded}
+use Rattle.ctr_actions.specs.ctr_record_effects.States.{pages_in}
+use Rattle.ctr_actions.proofs.record_laws_Bounds.{pages_bounded}
 use Rattle.ctr_actions.specs.Sites.{Site, site_of}
 use Rattle.ctr_passed.specs.Laid.{LaidPasses}
 use Rattle.ctr_passed.proofs.Pagewise.{PassedIn, page_by_page, place_by_place}

@@ -1,7 +1,7 @@
 use Rattle.std.proofs.Common.{◌+◌, ◌*◌, refl, arith}
 use Rattle.ctr_bytes.specs.Fields.{spelled}
 use Rattle.ctr_bytes.proofs.FieldLaws.{length-spelled}
-use Rattle.ctr_record_effects.specs.Changing.{link_record, link_older_record, unlink_record, unlink_older_record}
+use Rattle.ctr_actions.specs.ctr_record_effects.Changing.{link_record, link_older_record, unlink_record, unlink_older_record}
 use Rattle.ctr_passed.proofs.Apart.{entry_lies}
 use Rattle.ctr_passed.proofs.lying.chains_lie_as_their_actions.Goals as goal
 

@@ -1,9 +1,9 @@
 use Rattle.std.proofs.Common.{◌/◌, [], ◌∷◌, replicate, refl, sym, subst}
-use Rattle.ctr_page.specs.Reading.{put_over}
-use Rattle.ctr_page.specs.Making.{header_bytes}
-use Rattle.ctr_record_effects.specs.States.{pages_in}
-use Rattle.ctr_record_effects.specs.Changing.{alloc_record, free_record, format_record}
-use Rattle.ctr_record_effects.proofs.Laid.{bytes_laid, clear_laid}
+use Rattle.ctr_actions.specs.page_Reading.{put_over}
+use Rattle.ctr_actions.specs.page_Making.{header_bytes}
+use Rattle.ctr_actions.specs.ctr_record_effects.States.{pages_in}
+use Rattle.ctr_actions.specs.ctr_record_effects.Changing.{alloc_record, free_record, format_record}
+use Rattle.ctr_actions.proofs.record_effects_Laid.{bytes_laid, clear_laid}
 use Rattle.ctr_passed.specs.Laid.{LiesOnMap, LiesOnOnePage}
 use Rattle.ctr_passed.proofs.Apart.{on_map, page_elsewhere}
 use Rattle.ctr_passed.proofs.lying.pages_lie_as_their_actions.Goals as goal

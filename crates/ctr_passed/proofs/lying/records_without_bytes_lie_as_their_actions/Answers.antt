@@ -1,5 +1,5 @@
 use Rattle.std.proofs.Common.{refl}
-use Rattle.ctr_rec.specs.declared.record.Record.TheVariants.{Begin, Commit, Abort, Forget, Checkpoint}
+use Rattle.ctr_actions.specs.rec_Record.TheVariants.{Begin, Commit, Abort, Forget, Checkpoint}
 use Rattle.ctr_passed.proofs.Apart.{page_apart}
 use Rattle.ctr_passed.proofs.lying.records_without_bytes_lie_as_their_actions.Goals as goal
 

@@ -1,9 +1,9 @@
 use Rattle.std.proofs.Common.{◌≡◌, ◌+◌, ◌*◌, ◌/◌, ◌%◌, [], ◌∷◌, refl, ap, arith, Some}
 use Rattle.ctr_bytes.specs.Fields.{spelled}
 use Rattle.ctr_bytes.proofs.FieldLaws.{length-spelled}
-use Rattle.ctr_page.specs.Columns.{new_entry_bytes}
-use Rattle.ctr_area.proofs.Made.{length-new}
-use Rattle.ctr_record_effects.specs.Changing.{create_record, uncreate_record, drop_record, undrop_record, laid_at}
+use Rattle.ctr_actions.specs.page_Columns.{new_entry_bytes}
+use Rattle.ctr_actions.proofs.area_Made.{length-new}
+use Rattle.ctr_actions.specs.ctr_record_effects.Changing.{create_record, uncreate_record, drop_record, undrop_record, laid_at}
 use Rattle.ctr_passed.proofs.Apart.{entry_lies}
 use Rattle.ctr_passed.proofs.lying.tables_lie_as_their_actions.Goals as goal
 

@@ -1,4 +1,4 @@
-use Rattle.ctr_record_effects.specs.States.{area_in}
+use Rattle.ctr_actions.specs.ctr_record_effects.States.{area_in}
 use Rattle.ctr_passed.specs.Laid.{older_size_in}
 use Rattle.ctr_passed.proofs.Apart.{place_lies}
 use Rattle.ctr_passed.proofs.lying.versions_lie_as_their_actions.Goals as goal

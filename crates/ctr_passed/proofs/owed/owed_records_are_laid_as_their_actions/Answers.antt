@@ -1,8 +1,8 @@
 use Rattle.std.proofs.Common.{◌<◌, ℕ, [], ◌∷◌, subst, arith}
-use Rattle.ctr_rec.specs.declared.record.SlogItem.TheVariants.{CreateOf, DropOf}
-use Rattle.ctr_page.specs.declared.header.Header.{Header}
-use Rattle.ctr_record_laws.specs.Owed.{first_page}
-use Rattle.ctr_record_effects.specs.States.{area_in}
+use Rattle.ctr_actions.specs.rec_SlogItem_TheVariants.{CreateOf, DropOf}
+use Rattle.ctr_actions.specs.page_Header.{Header}
+use Rattle.ctr_actions.specs.record_laws_Owed.{first_page}
+use Rattle.ctr_actions.specs.ctr_record_effects.States.{area_in}
 use Rattle.ctr_actions.proofs.Latest.{last_among}
 use Rattle.ctr_passed.specs.Logged.{IsBlankPage}
 use Rattle.ctr_passed.proofs.Owing.{item_inside, entry_few, bucket_few, bucket_counted, versions_counted, unlinked_rows, unlinked_versions, live_used, live_few}

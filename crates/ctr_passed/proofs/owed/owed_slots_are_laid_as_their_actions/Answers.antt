@@ -1,5 +1,5 @@
-use Rattle.ctr_page.specs.Making.{slot_bytes}
-use Rattle.ctr_record_effects.specs.States.{area_in}
+use Rattle.ctr_actions.specs.page_Making.{slot_bytes}
+use Rattle.ctr_actions.specs.ctr_record_effects.States.{area_in}
 use Rattle.ctr_passed.specs.Laid.{width_in}
 use Rattle.ctr_passed.proofs.Kept.{row_here}
 use Rattle.ctr_passed.proofs.Putting.{slot_put}

@@ -1,7 +1,7 @@
-use Rattle.ctr_page.specs.Making.{kept_bytes}
-use Rattle.ctr_area.specs.Chains.{older_bound}
-use Rattle.ctr_area.specs.Sound.{along}
-use Rattle.ctr_record_effects.specs.States.{area_in}
+use Rattle.ctr_actions.specs.page_Making.{kept_bytes}
+use Rattle.ctr_actions.specs.area_Chains.{older_bound}
+use Rattle.ctr_actions.specs.area_Sound.{along}
+use Rattle.ctr_actions.specs.ctr_record_effects.States.{area_in}
 use Rattle.ctr_passed.proofs.Kept.{along_older, first_in}
 use Rattle.ctr_passed.proofs.Putting.{older_put}
 use Rattle.ctr_passed.proofs.owed.owed_versions_are_laid_as_their_actions.Goals as goal

@@ -1,6 +1,6 @@
 use Rattle.std.proofs.Common.{⊎_elim, ◌∙◌}
-use Rattle.ctr_record_effects.specs.States.{pages_in}
-use Rattle.ctr_record_laws.proofs.Bounds.{pages_bounded}
+use Rattle.ctr_actions.specs.ctr_record_effects.States.{pages_in}
+use Rattle.ctr_actions.proofs.record_laws_Bounds.{pages_bounded}
 use Rattle.ctr_actions.specs.Sites.{site_of}
 use Rattle.ctr_actions.specs.Facts.{HasBlank, IsBeside}
 use Rattle.ctr_actions.proofs.Beside.{beside_blank}

@@ -1,6 +1,6 @@
 use Rattle.std.proofs.Common.{◌≡◌, ◌∙◌, rules}
 use Rattle.std.specs.List.{count_by}
-use Rattle.ctr_types.specs.declared.tape.Entry.{Entry}
+use Rattle.ctr_model.specs.types_Entry.{Entry}
 use Rattle.ctr_model.specs.Tape.{is_answer}
 use Rattle.ctr_print.proofs.Lists.{count_answers}
 use Rattle.ctr_print.proofs.count.count_answers.Goals as goal

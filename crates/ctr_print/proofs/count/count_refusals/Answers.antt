@@ -1,6 +1,6 @@
 use Rattle.std.proofs.Common.{◌≡◌, ◌∙◌, rules}
 use Rattle.std.specs.List.{count_by}
-use Rattle.ctr_types.specs.declared.tape.Entry.{Entry}
+use Rattle.ctr_model.specs.types_Entry.{Entry}
 use Rattle.ctr_model.specs.Tape.{is_refused}
 use Rattle.ctr_print.proofs.Lists.{count_refusals}
 use Rattle.ctr_print.proofs.count.count_refusals.Goals as goal

@@ -3,7 +3,7 @@ use Rattle.ctr_page.specs.Making.{IsEntry}
 use Rattle.ctr_page.specs.Reading.{older_at}
 use Rattle.ctr_pvs.specs.Lending.{entry_lent}
 use Rattle.ctr_walk.proofs.Limits.{in_limit}
-use Rattle.ctr_store.specs.Store.{LeavesPage}
+use Rattle.ctr_walk.specs.store_Store.{LeavesPage}
 use Rattle.ctr_walk.proofs.Joins.{answers_ok}
 use Rattle.ctr_pvs.proofs.lending.lend.Goals as goal
 

@@ -2,10 +2,10 @@ use Rattle.std.proofs.Common.{Ok, Err, refl}
 use Rattle.std.specs.Prelude.{IsTrue}
 use Rattle.std.proofs.lemmas.Result.{err_from_is_err_and}
 use Rattle.ctr_page.specs.Reading.{older_at}
-use Rattle.ctr_area.specs.Reading.{columns_on}
+use Rattle.ctr_passed.specs.area_Reading.{columns_on}
 use Rattle.ctr_passed.specs.Logged.{IsOlderOf}
-use Rattle.ctr_base.specs.Base.{IsSoundImage}
-use Rattle.ctr_record_effects.specs.States.{pages_in}
+use Rattle.ctr_walk.specs.base_Base.{IsSoundImage}
+use Rattle.ctr_passed.specs.record_effects_States.{pages_in}
 use Rattle.ctr_walk.specs.Damage.{damage_told}
 use Rattle.ctr_walk.proofs.Damages.{told_ends, told_ok, reads_err}
 use Rattle.ctr_pvs.specs.declared.lending.LentVersion.{LentVersion}

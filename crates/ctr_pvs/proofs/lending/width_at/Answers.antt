@@ -2,11 +2,11 @@ use Rattle.std.proofs.Common.{Err, sym, subst}
 use Rattle.std.specs.Prelude.{IfOk}
 use Rattle.std.proofs.lemmas.Result.{err_from_is_err_and}
 use Rattle.ctr_page.specs.Reading.{older_at}
-use Rattle.ctr_area.specs.Reading.{columns_on}
+use Rattle.ctr_passed.specs.area_Reading.{columns_on}
 use Rattle.ctr_passed.specs.Logged.{IsOlderOf}
 use Rattle.ctr_walk.proofs.Entries.{columns_keyed}
-use Rattle.ctr_redo.specs.States.{State}
-use Rattle.ctr_record_effects.specs.States.{pages_in}
+use Rattle.ctr_passed.specs.redo_States.{State}
+use Rattle.ctr_passed.specs.record_effects_States.{pages_in}
 use Rattle.ctr_walk.specs.Damage.{searched, EndsOnPage}
 use Rattle.ctr_walk.proofs.Joins.{pages_join}
 use Rattle.ctr_walk.proofs.Searches.{passed, by_page}

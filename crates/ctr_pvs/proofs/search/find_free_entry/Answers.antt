@@ -1,6 +1,6 @@
 use Rattle.std.proofs.Common.{◌<◌}
 use Rattle.ctr_page.specs.declared.checks.Chain.TheVariants.{Versions}
-use Rattle.ctr_record_effects.specs.States.{pages_in, area_in}
+use Rattle.ctr_passed.specs.record_effects_States.{pages_in, area_in}
 use Rattle.ctr_walk.specs.Damage.{damage_told}
 use Rattle.ctr_walk.proofs.Ends.{told_there}
 use Rattle.ctr_walk.proofs.Said.{told_finds}

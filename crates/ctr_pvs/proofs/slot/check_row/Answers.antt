@@ -2,7 +2,7 @@ use Rattle.std.proofs.Common.{ℕ, List, sym, subst}
 use Rattle.std.specs.Prelude.{IfOk}
 use Rattle.ctr_page.specs.Reading.{slot_at}
 use Rattle.ctr_passed.specs.Logged.{IsSlotOf}
-use Rattle.ctr_record_effects.specs.States.{pages_in}
+use Rattle.ctr_passed.specs.record_effects_States.{pages_in}
 use Rattle.ctr_pvs.proofs.Made.{found_still}
 use Rattle.ctr_walk.proofs.Limits.{in_limit}
 use Rattle.ctr_walk.proofs.Searches.{ends_there}

@@ -3,7 +3,7 @@ use Rattle.ctr_page.specs.Making.{IsSlot}
 use Rattle.ctr_page.specs.Reading.{slot_at}
 use Rattle.ctr_pvs.specs.Slots.{slot_lent}
 use Rattle.ctr_walk.proofs.Limits.{in_limit}
-use Rattle.ctr_store.specs.Store.{LeavesPage}
+use Rattle.ctr_walk.specs.store_Store.{LeavesPage}
 use Rattle.ctr_walk.proofs.Joins.{answers_ok}
 use Rattle.ctr_pvs.proofs.slot.lend_row.Goals as goal
 

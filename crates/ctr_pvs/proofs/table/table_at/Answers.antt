@@ -1,10 +1,10 @@
 use Rattle.std.proofs.Common.{◌≡◌, ℕ, ◌%◌, ◌<◌, List, sym, ◌∙◌, ap, subst}
 use Rattle.std.specs.Prelude.{IfOk}
-use Rattle.ctr_redo.specs.States.{page_limit}
-use Rattle.ctr_value.specs.Columns.{ColumnsFit}
+use Rattle.ctr_passed.specs.redo_States.{page_limit}
+use Rattle.ctr_page.specs.ctr_value.Columns.{ColumnsFit}
 use Rattle.ctr_page.specs.Columns.{entry_at, columns_in}
-use Rattle.ctr_area.specs.Reading.{entry_bytes}
-use Rattle.ctr_record_effects.specs.States.{pages_in, area_in}
+use Rattle.ctr_passed.specs.area_Reading.{entry_bytes}
+use Rattle.ctr_passed.specs.record_effects_States.{pages_in, area_in}
 use Rattle.ctr_walk.specs.declared.table.TableOf.{TableOf}
 use Rattle.ctr_walk.proofs.Said.{bytes_of_entry}
 use Rattle.ctr_pvs.proofs.Made.{found_still}

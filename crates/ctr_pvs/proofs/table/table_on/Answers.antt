@@ -1,8 +1,8 @@
 use Rattle.std.proofs.Common.{◌+◌, ◌/◌, ◌%◌, Ok, subst}
 use Rattle.std.specs.Prelude.{IfOk}
 use Rattle.std.proofs.lemmas.Result.{err_from_is_err_and, IfOk-at_ok}
-use Rattle.ctr_redo.specs.States.{State}
-use Rattle.ctr_record_effects.specs.States.{pages_in}
+use Rattle.ctr_passed.specs.redo_States.{State}
+use Rattle.ctr_passed.specs.record_effects_States.{pages_in}
 use Rattle.ctr_walk.specs.Damage.{searched, EndsOnPage}
 use Rattle.ctr_walk.proofs.Joins.{pages_join}
 use Rattle.ctr_walk.proofs.Searches.{without, passed_page, by_page}

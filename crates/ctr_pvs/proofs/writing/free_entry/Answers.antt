@@ -1,24 +1,24 @@
 use Rattle.std.proofs.Common.{◌≡◌, ◌+◌, ◌≤◌, inl, [], ◌∷◌, Ok, Err, refl, sym, ap, ◌∙◌, subst}
 use Rattle.std.specs.Prelude.{IsTrue, OnOk, ⊤}
 use Rattle.std.proofs.lemmas.Result.{err_from_is_err_and}
-use Rattle.ctr_base.specs.Base.{IsSoundImage}
-use Rattle.ctr_redo.specs.States.{State}
+use Rattle.ctr_walk.specs.base_Base.{IsSoundImage}
+use Rattle.ctr_passed.specs.redo_States.{State}
 use Rattle.ctr_page.specs.Places.{kept_size, start_of}
 use Rattle.ctr_page.specs.Making.{kept_bytes}
-use Rattle.ctr_area.specs.Areas.{free_older}
-use Rattle.ctr_area.specs.Changes.{with_older}
-use Rattle.ctr_store.specs.Store.{Logs}
-use Rattle.ctr_record_effects.specs.States.{pages_in, area_in}
-use Rattle.ctr_record_effects.specs.Changing.{laid_on_place}
-use Rattle.ctr_actions.specs.Sites.{site_of}
-use Rattle.ctr_actions.specs.Actions.{FreesOlder, site_after}
+use Rattle.ctr_passed.specs.area_Areas.{free_older}
+use Rattle.ctr_passed.specs.area_Changes.{with_older}
+use Rattle.ctr_walk.specs.store_Store.{Logs}
+use Rattle.ctr_passed.specs.record_effects_States.{pages_in, area_in}
+use Rattle.ctr_walk.specs.record_effects_Changing.{laid_on_place}
+use Rattle.ctr_passed.specs.actions_Sites.{site_of}
+use Rattle.ctr_passed.specs.actions_Actions.{FreesOlder, site_after}
 use Rattle.ctr_walk.specs.Damage.{damage_told}
 use Rattle.ctr_walk.specs.OneRecord.{LogsOne}
 use Rattle.ctr_walk.proofs.Damages.{told_ends, told_ok, reads_err}
 use Rattle.ctr_walk.proofs.Records.{both_ok, one_behind}
 use Rattle.ctr_pvs.specs.Reading.{PassesAt, EndsAt}
 use Rattle.ctr_pvs.specs.Writing.{blank_entry, blank_record, drop_check}
-use Rattle.ctr_record_effects.specs.Standing.{ShowsAlike}
+use Rattle.ctr_passed.specs.record_effects_Standing.{ShowsAlike}
 use Rattle.ctr_pvs.proofs.Freeing.{told_as, drops, on_place}
 use Rattle.ctr_pvs.proofs.Showing.{shows_by}
 use Rattle.ctr_pvs.proofs.writing.free_entry.Given.{Over}

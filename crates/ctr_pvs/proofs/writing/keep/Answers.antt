@@ -1,18 +1,18 @@
 use Rattle.std.proofs.Common.{◌≡◌, [], ◌∷◌, length, Some, refl, sym, ap, ◌∙◌, subst}
 use Rattle.ctr_rec.specs.declared.record.Record.{Record}
 use Rattle.ctr_rec.specs.declared.record.Record.TheVariants.{Keep}
-use Rattle.ctr_redo.specs.States.{State, page_at}
+use Rattle.ctr_passed.specs.redo_States.{State, page_at}
 use Rattle.ctr_page.specs.Places.{kept_size}
 use Rattle.ctr_page.specs.Making.{kept_bytes, IsEntry}
-use Rattle.ctr_area.specs.Areas.{Area}
-use Rattle.ctr_area.specs.Changes.{with_older}
-use Rattle.ctr_record_effects.specs.States.{area_in}
-use Rattle.ctr_record_effects.specs.Changing.{laid_on_place}
-use Rattle.ctr_actions.specs.Sites.{Site, site_of}
-use Rattle.ctr_actions.specs.Actions.{Keeps, site_after}
-use Rattle.ctr_store.specs.Store.{Logs}
+use Rattle.ctr_passed.specs.area_Areas.{Area}
+use Rattle.ctr_passed.specs.area_Changes.{with_older}
+use Rattle.ctr_passed.specs.record_effects_States.{area_in}
+use Rattle.ctr_walk.specs.record_effects_Changing.{laid_on_place}
+use Rattle.ctr_passed.specs.actions_Sites.{Site, site_of}
+use Rattle.ctr_passed.specs.actions_Actions.{Keeps, site_after}
+use Rattle.ctr_walk.specs.store_Store.{Logs}
 use Rattle.ctr_walk.proofs.Records.{both_ok}
-use Rattle.ctr_record_laws.specs.Owed.{OwedByKeep, IsSpareCopy}
+use Rattle.ctr_passed.specs.record_laws_Owed.{OwedByKeep, IsSpareCopy}
 use Rattle.ctr_pvs.specs.Showing.{older_laid, KeepsVersion}
 use Rattle.ctr_pvs.proofs.OneRecord.{entry_laid}
 use Rattle.ctr_walk.proofs.Limits.{below_limit}

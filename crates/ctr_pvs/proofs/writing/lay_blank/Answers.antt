@@ -2,14 +2,14 @@ use Rattle.std.proofs.Common.{◌≡◌, [], ◌∷◌, length, take, Some, sym,
 use Rattle.ctr_rec.specs.declared.record.Overlay.{Overlay}
 use Rattle.ctr_rec.specs.declared.record.Record.{Record}
 use Rattle.ctr_rec.specs.declared.record.Record.TheVariants.{Trim}
-use Rattle.ctr_redo.specs.States.{page_at}
+use Rattle.ctr_passed.specs.redo_States.{page_at}
 use Rattle.ctr_page.specs.Places.{kept_size}
 use Rattle.ctr_page.specs.Making.{kept_bytes, IsEntry}
-use Rattle.ctr_area.specs.Areas.{free_older}
-use Rattle.ctr_area.specs.Changes.{with_older}
-use Rattle.ctr_record_effects.specs.States.{area_in}
-use Rattle.ctr_record_effects.specs.Changing.{laid_on_place}
-use Rattle.ctr_store.specs.Store.{MayLog, Logs}
+use Rattle.ctr_passed.specs.area_Areas.{free_older}
+use Rattle.ctr_passed.specs.area_Changes.{with_older}
+use Rattle.ctr_passed.specs.record_effects_States.{area_in}
+use Rattle.ctr_walk.specs.record_effects_Changing.{laid_on_place}
+use Rattle.ctr_walk.specs.store_Store.{MayLog, Logs}
 use Rattle.ctr_walk.specs.OneRecord.{LogsOne}
 use Rattle.ctr_walk.proofs.Records.{both_ok}
 use Rattle.ctr_pvs.specs.Writing.{blank_entry, blank_record}

@@ -3,8 +3,8 @@ use Rattle.std.specs.Prelude.{IfOk, ⊤}
 use Rattle.std.proofs.lemmas.Result.{err_from_is_err_and}
 use Rattle.ctr_page.specs.Places.{kept_size}
 use Rattle.ctr_page.specs.Columns.{kinds_width}
-use Rattle.ctr_record_effects.specs.States.{pages_in}
-use Rattle.ctr_store.specs.Store.{LeavesPage}
+use Rattle.ctr_passed.specs.record_effects_States.{pages_in}
+use Rattle.ctr_walk.specs.store_Store.{LeavesPage}
 use Rattle.ctr_walk.specs.Damage.{searched, EndsOnPage}
 use Rattle.ctr_walk.proofs.Searches.{ends_on, found_ok, passed, passed_page, leaves_on, leaves_without}
 use Rattle.ctr_pvs.specs.Table.{TableSaid}

@@ -3,7 +3,7 @@ use Rattle.std.specs.Prelude.{IfErr, IfOk, IfSome, ◌≢◌}
 use Rattle.ctr_page.specs.declared.checks.Chain.TheVariants.{Rows}
 use Rattle.ctr_redo.specs.States.{State}
 use Rattle.ctr_area.specs.Chains.{places_from}
-use Rattle.ctr_record_effects.specs.States.{area_in}
+use Rattle.ctr_walk.specs.record_effects_States.{area_in}
 use Rattle.ctr_walk.specs.Damage.{damage_told}
 use Rattle.ctr_walk.specs.Tables.{IsFirstPage, first_of_chain}
 use Rattle.ctr_walk.proofs.Damages.{reads_err}

@@ -2,8 +2,8 @@ use Rattle.std.proofs.Common.{◌≡◌, ◌<◌, ◌≤◌, ◌-◌, suc, inl, 
 use Rattle.std.specs.Prelude.{IfOk, ⊤}
 use Rattle.ctr_redo.specs.States.{State}
 use Rattle.ctr_area.specs.Chains.{pages_bound, pages_from, places_on}
-use Rattle.ctr_record_effects.specs.States.{area_in}
-use Rattle.ctr_chain.specs.declared.view.ReadRefusal.{ReadRefusal}
+use Rattle.ctr_walk.specs.record_effects_States.{area_in}
+use Rattle.ctr_views.specs.chain_ReadRefusal.{ReadRefusal}
 use Rattle.ctr_walk.proofs.PagesRead.{still_goes, same_now, was_read}
 use Rattle.ctr_reading.specs.Reading.{as_told, sees, IsDiskOrMemory}
 use Rattle.ctr_reading.specs.Gathering.{gathered, Gathers, IsBucketPage}

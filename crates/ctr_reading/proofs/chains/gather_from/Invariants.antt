@@ -1,7 +1,7 @@
 use Rattle.std.proofs.Common.{◌≡◌, ◌<◌}
 use Rattle.std.specs.Prelude.{IsTrue}
 use Rattle.ctr_base.specs.Base.{IsSoundImage}
-use Rattle.ctr_record_effects.specs.States.{area_in}
+use Rattle.ctr_walk.specs.record_effects_States.{area_in}
 use Rattle.ctr_walk.proofs.PagesRead.{HasRead}
 use Rattle.ctr_reading.specs.Reading.{sees}
 use Rattle.ctr_reading.proofs.Walked.{IsWalked}

@@ -4,9 +4,9 @@ use Rattle.ctr_types.specs.declared.memory.OutOfMemory.{OutOfMemory}
 use Rattle.ctr_disk.specs.declared.fault.StoreFault.TheVariants.{Fault}
 use Rattle.ctr_redo.specs.States.{State}
 use Rattle.ctr_area.specs.Chains.{places_on}
-use Rattle.ctr_record_effects.specs.States.{pages_in, area_in}
+use Rattle.ctr_walk.specs.record_effects_States.{pages_in, area_in}
 use Rattle.ctr_walk.proofs.Damages.{reads_err}
-use Rattle.ctr_chain.specs.declared.view.ReadRefusal.{ReadRefusal}
+use Rattle.ctr_views.specs.chain_ReadRefusal.{ReadRefusal}
 use Rattle.ctr_reading.specs.Reading.{as_told, sees, IsDiskOrMemory}
 use Rattle.ctr_reading.specs.Gathering.{gathered, ArePageSlots, Gathers, IsBucketPage}
 use Rattle.ctr_reading.proofs.Gathers.{refused_further}

@@ -2,9 +2,9 @@ use Rattle.std.proofs.Common.{◌≡◌, ◌+◌, ◌≤◌, inl, inr, drop, sli
 use Rattle.std.specs.Prelude.{IfOk, ⊤}
 use Rattle.ctr_redo.specs.States.{State}
 use Rattle.ctr_area.specs.Chains.{places_from, slot_places}
-use Rattle.ctr_record_effects.specs.States.{pages_in, area_in}
-use Rattle.ctr_record_effects.specs.Standing.{IsDatabaseState}
-use Rattle.ctr_chain.specs.declared.view.ReadRefusal.{ReadRefusal}
+use Rattle.ctr_walk.specs.record_effects_States.{pages_in, area_in}
+use Rattle.ctr_walk.specs.record_effects_Standing.{IsDatabaseState}
+use Rattle.ctr_views.specs.chain_ReadRefusal.{ReadRefusal}
 use Rattle.ctr_walk.proofs.PagesRead.{still_goes, same_now, was_read}
 use Rattle.ctr_reading.specs.Reading.{as_told, sees, IsDiskOrMemory}
 use Rattle.ctr_reading.specs.Gathering.{gathered, bucket_places, Gathers}

@@ -3,13 +3,13 @@ use Rattle.std.specs.Prelude.{IfErr, IfOk, ⊤}
 use Rattle.ctr_types.specs.declared.value.Row.{Row}
 use Rattle.ctr_disk.specs.declared.fault.StoreFault.TheVariants.{Fault}
 use Rattle.ctr_redo.specs.States.{State}
-use Rattle.ctr_record_effects.specs.States.{pages_in, area_in}
+use Rattle.ctr_walk.specs.record_effects_States.{pages_in, area_in}
 use Rattle.ctr_walk.specs.Damage.{damage_told, EndsTold, ReadsPages}
 use Rattle.ctr_walk.proofs.Damages.{reads_err}
-use Rattle.ctr_chain.specs.Rows.{GivesRow}
-use Rattle.ctr_chain.specs.Seeking.{sought_at}
-use Rattle.ctr_chain.specs.Visible.{as_read, EndsReading, visible_row}
-use Rattle.ctr_chain.specs.declared.view.ReadRefusal.{ReadRefusal}
+use Rattle.ctr_views.specs.chain_Rows.{GivesRow}
+use Rattle.ctr_undamaged.specs.chain_Seeking.{sought_at}
+use Rattle.ctr_views.specs.chain_Visible.{as_read, EndsReading, visible_row}
+use Rattle.ctr_views.specs.chain_ReadRefusal.{ReadRefusal}
 use Rattle.std.specs.declared.result.Result.{Result}
 use Rattle.ctr_reading.specs.Reading.{as_told, sees}
 use Rattle.ctr_reading.proofs.Told.{undamaged, same_told, disk_or_memory, reads_behind, told_err, told_ok}

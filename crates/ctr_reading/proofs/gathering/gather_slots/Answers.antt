@@ -5,11 +5,11 @@ use Rattle.ctr_page.specs.declared.rows.Place.{Place}
 use Rattle.ctr_redo.specs.States.{State}
 use Rattle.ctr_area.specs.Chains.{slot_places, places_on}
 use Rattle.ctr_area.specs.Sound.{IsAmong}
-use Rattle.ctr_record_effects.specs.States.{pages_in, area_in}
-use Rattle.ctr_record_effects.specs.Standing.{IsDatabaseState}
+use Rattle.ctr_walk.specs.record_effects_States.{pages_in, area_in}
+use Rattle.ctr_walk.specs.record_effects_Standing.{IsDatabaseState}
 use Rattle.ctr_walk.proofs.PagesRead.{still_goes, same_now}
-use Rattle.ctr_pvs.specs.Table.{TableSaid}
-use Rattle.ctr_chain.specs.declared.view.ReadRefusal.{ReadRefusal}
+use Rattle.ctr_views.specs.pvs_Table.{TableSaid}
+use Rattle.ctr_views.specs.chain_ReadRefusal.{ReadRefusal}
 use Rattle.ctr_reading.specs.Reading.{as_told, sees, IsDiskOrMemory}
 use Rattle.ctr_reading.specs.Gathering.{gathered_at, gathered, Gathers}
 use Rattle.ctr_reading.proofs.Gathers.{refused_further, slots_step, slots_end}

@@ -4,13 +4,13 @@ use Rattle.ctr_disk.specs.declared.fault.StoreFault.TheVariants.{Fault}
 use Rattle.std.specs.Int.{w64}
 use Rattle.std.proofs.lemmas.Int.{to_z-of_z}
 use Rattle.ctr_redo.specs.States.{State}
-use Rattle.ctr_record_effects.specs.States.{pages_in, area_in}
+use Rattle.ctr_walk.specs.record_effects_States.{pages_in, area_in}
 use Rattle.ctr_walk.specs.Damage.{damage_told, EndsTold, ReadsPages}
 use Rattle.ctr_walk.proofs.Damages.{reads_err}
-use Rattle.ctr_heap.specs.Finding.{FindsKey}
-use Rattle.ctr_chain.specs.Rows.{GivesRow}
-use Rattle.ctr_chain.specs.Seeking.{sought_at}
-use Rattle.ctr_chain.specs.Visible.{as_read, EndsReading, visible_row}
+use Rattle.ctr_undamaged.specs.heap_Finding.{FindsKey}
+use Rattle.ctr_views.specs.chain_Rows.{GivesRow}
+use Rattle.ctr_undamaged.specs.chain_Seeking.{sought_at}
+use Rattle.ctr_views.specs.chain_Visible.{as_read, EndsReading, visible_row}
 use Rattle.ctr_reading.specs.Reading.{as_told, sees, GivesSeen}
 use Rattle.ctr_reading.proofs.Told.{undamaged, same_told, disk_or_memory, reads_behind, ok_so, of_key, bucket_undamaged}
 use Rattle.ctr_reading.proofs.key.row_of_key.Goals as goal

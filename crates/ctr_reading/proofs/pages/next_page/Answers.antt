@@ -1,6 +1,6 @@
 use Rattle.std.proofs.Common.{ℕ, Result, subst}
 use Rattle.ctr_page.specs.declared.walk.BadChain.{BadChain}
-use Rattle.ctr_record_effects.specs.States.{pages_in}
+use Rattle.ctr_walk.specs.record_effects_States.{pages_in}
 use Rattle.ctr_walk.specs.Damage.{damage_told, EndsOnPage, EndsTold}
 use Rattle.ctr_walk.proofs.Damages.{told_ends}
 use Rattle.ctr_reading.specs.Gathering.{NextSaid}

@@ -1,7 +1,7 @@
 use Rattle.std.proofs.Common.{◌∙◌, Err, ap}
 use Rattle.ctr_page.specs.Columns.{kinds_width}
 use Rattle.ctr_page.specs.Places.{slot_size, room_for}
-use Rattle.ctr_record_effects.specs.States.{pages_in}
+use Rattle.ctr_walk.specs.record_effects_States.{pages_in}
 use Rattle.ctr_walk.specs.Damage.{damage_told}
 use Rattle.ctr_walk.proofs.Damages.{reads_err}
 use Rattle.ctr_reading.proofs.Places.{room_is, table_undamaged}

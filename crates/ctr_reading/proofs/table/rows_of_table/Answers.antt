@@ -3,9 +3,9 @@ use Rattle.std.specs.Prelude.{IfOk, ⊤}
 use Rattle.ctr_types.specs.declared.memory.OutOfMemory.{OutOfMemory}
 use Rattle.ctr_types.specs.declared.value.Rows.{Rows}
 use Rattle.ctr_area.specs.Chains.{slot_places}
-use Rattle.ctr_record_effects.specs.States.{area_in}
+use Rattle.ctr_walk.specs.record_effects_States.{area_in}
 use Rattle.ctr_walk.specs.Damage.{ReadsPages}
-use Rattle.ctr_chain.specs.declared.view.ReadRefusal.{ReadRefusal}
+use Rattle.ctr_views.specs.chain_ReadRefusal.{ReadRefusal}
 use Rattle.ctr_reading.specs.Reading.{as_told, sees, GivesShown}
 use Rattle.ctr_reading.specs.Gathering.{gathered, Gathers}
 use Rattle.ctr_reading.proofs.Scans.{refused_shown, given_shown}

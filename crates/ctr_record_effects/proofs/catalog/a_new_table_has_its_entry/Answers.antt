@@ -1,5 +1,5 @@
 use Rattle.std.proofs.Common.{◌+◌, ◌*◌, ◌/◌, ◌%◌, refl, sym, subst, arith}
-use Rattle.ctr_page.specs.Columns.{new_entry_bytes}
+use Rattle.ctr_area.specs.ctr_page.Columns.{new_entry_bytes}
 use Rattle.ctr_area.specs.Reading.{area_of}
 use Rattle.ctr_area.specs.Changes.{new_title, empty_chains, ChangesEntry}
 use Rattle.ctr_area.proofs.Made.{new_entry_made}

@@ -1,5 +1,5 @@
 use Rattle.std.proofs.Common.{◌+◌, ◌*◌, ◌/◌, ◌%◌, refl, ◌∙◌, ap, arith}
-use Rattle.ctr_bytes.specs.Fields.{spelled}
+use Rattle.ctr_area.specs.ctr_bytes.Fields.{spelled}
 use Rattle.ctr_area.specs.Reading.{area_of}
 use Rattle.ctr_area.proofs.InEntry.{dropper_written}
 use Rattle.ctr_record_effects.specs.States.{pages_in}

@@ -1,5 +1,5 @@
 use Rattle.std.proofs.Common.{refl, ◌∙◌, ap}
-use Rattle.ctr_page.specs.Making.{header_bytes}
+use Rattle.ctr_area.specs.ctr_page.Making.{header_bytes}
 use Rattle.ctr_area.specs.Reading.{area_of}
 use Rattle.ctr_area.proofs.Cleared.{page_cleared}
 use Rattle.ctr_record_effects.specs.States.{pages_in}

@@ -1,5 +1,5 @@
 use Rattle.std.proofs.Common.{◌∙◌, ap}
-use Rattle.ctr_page.specs.Making.{kept_bytes}
+use Rattle.ctr_area.specs.ctr_page.Making.{kept_bytes}
 use Rattle.ctr_area.specs.Reading.{area_of}
 use Rattle.ctr_area.proofs.Placed.{older_placed}
 use Rattle.ctr_record_effects.specs.States.{pages_in}

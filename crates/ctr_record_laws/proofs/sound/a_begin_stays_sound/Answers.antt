@@ -1,6 +1,6 @@
 use Rattle.std.proofs.Common.{◌<◌, sym, subst}
 use Rattle.ctr_area.specs.Sound.{IsSoundArea}
-use Rattle.ctr_meta.specs.Effects.{opened_by}
+use Rattle.ctr_area.specs.meta_Effects.{opened_by}
 use Rattle.ctr_record_laws.proofs.Begin.{begin_sound}
 use Rattle.ctr_record_laws.proofs.sound.a_begin_stays_sound.Goals as goal
 

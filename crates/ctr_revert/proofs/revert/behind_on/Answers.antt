@@ -3,7 +3,7 @@ use Rattle.std.specs.Int.{w64}
 use Rattle.std.proofs.lemmas.Int.{to_z-of_z}
 use Rattle.std.proofs.lemmas.Result.{err_from_is_err_and}
 use Rattle.ctr_page.specs.Columns.{kinds_width}
-use Rattle.ctr_walk.specs.Tables.{kinds_said}
+use Rattle.ctr_pvs.specs.walk_Tables.{kinds_said}
 use Rattle.ctr_revert.specs.Reverting.{if_used, MadeByEntry}
 use Rattle.ctr_revert.proofs.Passed.{entry_said_by, entry_bad_by}
 use Rattle.ctr_revert.proofs.revert.behind_on.Goals as goal

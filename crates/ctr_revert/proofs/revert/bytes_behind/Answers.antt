@@ -1,11 +1,11 @@
 use Rattle.std.proofs.Common.{◌≡◌, Ok, ◌∙◌, ap, subst}
 use Rattle.std.proofs.lemmas.Result.{err_from_is_err_and}
 use Rattle.ctr_page.specs.Columns.{kinds_width}
-use Rattle.ctr_record_effects.specs.States.{pages_in}
-use Rattle.ctr_walk.specs.Damage.{searched}
-use Rattle.ctr_walk.proofs.Joins.{answers_ok, pages_join}
-use Rattle.ctr_walk.proofs.Searches.{passed_page, leaves_behind}
-use Rattle.ctr_walk.specs.Tables.{kinds_said}
+use Rattle.ctr_pvs.specs.record_effects_States.{pages_in}
+use Rattle.ctr_pvs.specs.walk_Damage.{searched}
+use Rattle.ctr_pvs.proofs.walk_Joins.{answers_ok, pages_join}
+use Rattle.ctr_pvs.proofs.walk_Searches.{passed_page, leaves_behind}
+use Rattle.ctr_pvs.specs.walk_Tables.{kinds_said}
 use Rattle.ctr_revert.specs.Reverting.{EntrySaidFrom, IsMadeOr, BytesSaid}
 use Rattle.ctr_revert.proofs.Lost.{by_reading, ends_kept, ends_damaged, none_of}
 use Rattle.ctr_revert.proofs.revert.bytes_behind.Goals as goal

@@ -1,29 +1,29 @@
 use Rattle.std.proofs.Common.{◌≡◌, ℕ, inl, [], ◌∷◌, length, true, Ok, Err, refl, sym, ◌∙◌, ap, subst}
 use Rattle.std.specs.Prelude.{IsTrue, OnOk, ⊤}
 use Rattle.std.proofs.lemmas.Result.{err_from_is_err_and}
-use Rattle.ctr_base.specs.Base.{IsSoundImage}
+use Rattle.ctr_pvs.specs.base_Base.{IsSoundImage}
 use Rattle.ctr_rec.specs.declared.record.Record.TheVariants.{Revert}
-use Rattle.ctr_redo.specs.States.{State, step}
+use Rattle.ctr_pvs.specs.redo_States.{State, step}
 use Rattle.ctr_versions.specs.Changes.{revert}
 use Rattle.ctr_versions.specs.Versions.{rows_of, RowsSet}
 use Rattle.ctr_meta.specs.Effects.{one_aborted_less}
-use Rattle.ctr_area.specs.Areas.{Area}
-use Rattle.ctr_area.specs.Images.{versions_in}
-use Rattle.ctr_area.specs.Changes.{with_slot}
-use Rattle.ctr_area.specs.Sound.{IsUsedSlot}
+use Rattle.ctr_pvs.specs.area_Areas.{Area}
+use Rattle.ctr_pvs.specs.area_Images.{versions_in}
+use Rattle.ctr_pvs.specs.area_Changes.{with_slot}
+use Rattle.ctr_pvs.specs.area_Sound.{IsUsedSlot}
 use Rattle.ctr_page.specs.Places.{slot_size}
-use Rattle.ctr_record_laws.specs.Owed.{Reverting, ToKept, FitsReverting, reverted_at}
-use Rattle.ctr_record_laws.specs.Loose.{IsLoose}
-use Rattle.ctr_store.specs.Store.{Logs}
-use Rattle.ctr_record_effects.specs.States.{pages_in, area_in}
-use Rattle.ctr_record_effects.specs.Changing.{laid_on_place}
-use Rattle.ctr_record_effects.specs.Standing.{HasSoundArea}
-use Rattle.ctr_actions.specs.Sites.{Site, site_of}
-use Rattle.ctr_actions.specs.Actions.{Reverts, site_after}
-use Rattle.ctr_walk.specs.Damage.{damage_told}
-use Rattle.ctr_walk.specs.OneRecord.{LogsOne}
-use Rattle.ctr_walk.proofs.Damages.{told_ends, told_ok, reads_err}
-use Rattle.ctr_walk.proofs.Records.{both_ok, one_behind}
+use Rattle.ctr_pvs.specs.record_laws_Owed.{Reverting, ToKept, FitsReverting, reverted_at}
+use Rattle.ctr_pvs.specs.record_laws_Loose.{IsLoose}
+use Rattle.ctr_pvs.specs.store_Store.{Logs}
+use Rattle.ctr_pvs.specs.record_effects_States.{pages_in, area_in}
+use Rattle.ctr_pvs.specs.record_effects_Changing.{laid_on_place}
+use Rattle.ctr_pvs.specs.record_effects_Standing.{HasSoundArea}
+use Rattle.ctr_pvs.specs.actions_Sites.{Site, site_of}
+use Rattle.ctr_pvs.specs.actions_Actions.{Reverts, site_after}
+use Rattle.ctr_pvs.specs.walk_Damage.{damage_told}
+use Rattle.ctr_pvs.specs.walk_OneRecord.{LogsOne}
+use Rattle.ctr_pvs.proofs.walk_Damages.{told_ends, told_ok, reads_err}
+use Rattle.ctr_pvs.proofs.walk_Records.{both_ok, one_behind}
 use Rattle.ctr_pvs.proofs.Freeing.{told_as}
 use Rattle.ctr_pvs.proofs.Showing.{sound_by}
 use Rattle.ctr_revert.specs.Reverting.{without_head, KeepsKey, lost_record, bytes_laid, revert_check, PassesRow, EndsRow, LiesThere}

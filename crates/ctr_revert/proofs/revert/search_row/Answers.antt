@@ -2,15 +2,15 @@ use Rattle.std.proofs.Common.{Result, Ok, Err, sym, ◌∙◌, ap, subst}
 use Rattle.std.specs.Prelude.{⊤, IsTrue, IfOk}
 use Rattle.std.proofs.lemmas.Result.{err_from_is_err_and}
 use Rattle.ctr_bytes.specs.Following.{◌>>=◌}
-use Rattle.ctr_redo.specs.States.{State}
-use Rattle.ctr_base.specs.Base.{IsSoundImage}
+use Rattle.ctr_pvs.specs.redo_States.{State}
+use Rattle.ctr_pvs.specs.base_Base.{IsSoundImage}
 use Rattle.ctr_page.specs.declared.walk.BadChain.{BadChain}
 use Rattle.ctr_page.specs.Columns.{kinds_width}
-use Rattle.ctr_record_effects.specs.States.{pages_in}
-use Rattle.ctr_store.specs.Store.{LeavesPage}
-use Rattle.ctr_walk.specs.Damage.{searched, EndsOnPage}
-use Rattle.ctr_walk.proofs.Joins.{answers_ok, pages_join}
-use Rattle.ctr_walk.proofs.Searches.{without, passed, passed_page, leaves_without, leaves_behind}
+use Rattle.ctr_pvs.specs.record_effects_States.{pages_in}
+use Rattle.ctr_pvs.specs.store_Store.{LeavesPage}
+use Rattle.ctr_pvs.specs.walk_Damage.{searched, EndsOnPage}
+use Rattle.ctr_pvs.proofs.walk_Joins.{answers_ok, pages_join}
+use Rattle.ctr_pvs.proofs.walk_Searches.{without, passed, passed_page, leaves_without, leaves_behind}
 use Rattle.ctr_pvs.specs.Table.{owner_of, TableSaid}
 use Rattle.ctr_pvs.specs.Reading.{row_on_check}
 use Rattle.ctr_pvs.proofs.Told.{no_table_first, by_table}

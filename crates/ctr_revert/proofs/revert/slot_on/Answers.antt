@@ -1,6 +1,6 @@
 use Rattle.std.proofs.Common.{◌≡◌, ◌≤◌, ◌∙◌, ap, subst, arith}
 use Rattle.ctr_page.specs.Columns.{kinds_width}
-use Rattle.ctr_walk.specs.Tables.{kinds_said}
+use Rattle.ctr_pvs.specs.walk_Tables.{kinds_said}
 use Rattle.ctr_revert.proofs.Passed.{lies_of_row, row_inside, slot_said_by}
 use Rattle.ctr_revert.proofs.revert.slot_on.Goals as goal
 

@@ -2,9 +2,9 @@ use Rattle.std.proofs.Common.{◌≡◌, false, [], Ok, sym, subst}
 use Rattle.ctr_meta.specs.Needs.{needs}
 use Rattle.ctr_meta.specs.Tables.{Tables}
 use Rattle.ctr_rec.specs.declared.record.Record.TheVariants.{Abort}
-use Rattle.ctr_record_effects.specs.States.{pages_in}
-use Rattle.ctr_actions.specs.Sites.{site_of}
-use Rattle.ctr_actions.specs.Actions.{Aborts}
+use Rattle.ctr_page_turns.specs.record_effects_States.{pages_in}
+use Rattle.ctr_page_turns.specs.actions_Sites.{site_of}
+use Rattle.ctr_page_turns.specs.actions_Actions.{Aborts}
 use Rattle.ctr_txn.specs.Held.{number_drawn}
 use Rattle.ctr_rollback.proofs.Records.{refused_by_disk, three_ok}
 use Rattle.ctr_rollback.proofs.calls.mark.Goals as goal

@@ -1,9 +1,9 @@
 use Rattle.std.proofs.Common.{◌≡◌, Ok, sym, subst}
 use Rattle.ctr_meta.specs.Needs.{needs}
 use Rattle.ctr_meta.specs.Tables.{Tables}
-use Rattle.ctr_record_effects.specs.States.{pages_in}
-use Rattle.ctr_actions.specs.Sites.{site_of}
-use Rattle.ctr_actions.specs.Actions.{undoing}
+use Rattle.ctr_page_turns.specs.record_effects_States.{pages_in}
+use Rattle.ctr_page_turns.specs.actions_Sites.{site_of}
+use Rattle.ctr_page_turns.specs.actions_Actions.{undoing}
 use Rattle.ctr_catalog.specs.Writing.{undo_record}
 use Rattle.ctr_rollback.proofs.Records.{made_of, undo_laid, undo_fits, refused_by_disk, three_ok}
 use Rattle.ctr_rollback.proofs.calls.undo.Goals as goal

@@ -4,14 +4,14 @@ use Rattle.ctr_model.proofs.Sessions.{find-put-other, find-without-other}
 use Rattle.ctr_model.specs.Texts.{answers}
 use Rattle.ctr_types.specs.declared.tape.Act.TheVariants as act
 use Rattle.ctr_types.specs.declared.tape.Reply.TheVariants as reply
-use Rattle.ctr_actions.specs.Sites.{Site, site_of}
-use Rattle.ctr_actions.specs.Actions.{Aborts, undoing, site_after}
+use Rattle.ctr_page_turns.specs.actions_Sites.{Site, site_of}
+use Rattle.ctr_page_turns.specs.actions_Actions.{Aborts, undoing, site_after}
 use Rattle.ctr_area.specs.Sound.{IsAmong}
 use Rattle.ctr_area.proofs.Buckets.{each_of}
-use Rattle.ctr_actions.specs.Facts.{Fact}
-use Rattle.ctr_kept.specs.Tables.{IsTable}
-use Rattle.ctr_kept.proofs.Tables.{no_blank}
-use Rattle.ctr_kept.specs.Turns.{KeepsRun, scene_now, undoing_mind, gone_mind, entry_of, telling}
+use Rattle.ctr_stops.specs.actions_Facts.{Fact}
+use Rattle.ctr_stops.specs.kept_Tables.{IsTable}
+use Rattle.ctr_stops.proofs.kept_Tables.{no_blank}
+use Rattle.ctr_stops.specs.kept_Turns.{KeepsRun, scene_now, undoing_mind, gone_mind, entry_of, telling}
 use Rattle.ctr_rollback.proofs.Worlds.{carries_none, undoing_seat, same_twice, undoing_covered, undoing_moves, no_answer, its_held, apart_fact, its_carried}
 use Rattle.ctr_rollback.proofs.laws.a_turn_of_a_rollback_is_kept.Goals as goal
 

@@ -4,10 +4,10 @@ use Rattle.ctr_rec.specs.declared.record.Record.TheVariants.{Abort}
 use Rattle.ctr_meta.specs.Items.{is_item_by}
 use Rattle.ctr_meta.specs.Kept.{TablesKept}
 use Rattle.ctr_meta.specs.Tables.{Tables}
-use Rattle.ctr_record_effects.specs.States.{pages_in}
+use Rattle.ctr_page_turns.specs.record_effects_States.{pages_in}
 use Rattle.ctr_record_laws.specs.Owed.{IsLastItem}
-use Rattle.ctr_actions.specs.Sites.{Site, site_of}
-use Rattle.ctr_actions.specs.Actions.{item_count}
+use Rattle.ctr_page_turns.specs.actions_Sites.{Site, site_of}
+use Rattle.ctr_page_turns.specs.actions_Actions.{item_count}
 use Rattle.ctr_catalog.specs.Writing.{undo_record}
 use Rattle.ctr_txn.specs.Held.{number_drawn}
 use Rattle.ctr_rollback.proofs.Records.{undo_next, undo_leaves_room, none_counted, one_done, one_failed}

@@ -2,8 +2,8 @@ use Rattle.std.proofs.Common.{[], refl, sym, ap, subst}
 use Rattle.std.proofs.lemmas.List.{append-nil}
 use Rattle.ctr_redo.specs.States.{State as Stored}
 use Rattle.ctr_model.specs.Texts.{answers}
-use Rattle.ctr_actions.specs.Sites.{site_of}
-use Rattle.ctr_kept.specs.Turns.{KeepsRun}
+use Rattle.ctr_told.specs.actions_Sites.{site_of}
+use Rattle.ctr_told.specs.kept_Turns.{KeepsRun}
 use Rattle.ctr_session_world.proofs.behind.pages_that_are_read_keep_a_world.Goals as goal
 
 pub returns : goal.returns

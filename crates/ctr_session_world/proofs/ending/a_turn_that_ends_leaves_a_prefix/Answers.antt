@@ -1,4 +1,4 @@
-use Rattle.ctr_stops.specs.World.{course_of}
+use Rattle.ctr_told.specs.stops_World.{course_of}
 use Rattle.ctr_session_world.proofs.Left.{left_by}
 use Rattle.ctr_session_world.proofs.ending.a_turn_that_ends_leaves_a_prefix.Goals as goal
 

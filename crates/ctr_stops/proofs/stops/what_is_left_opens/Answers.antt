@@ -1,11 +1,11 @@
 use Rattle.std.proofs.Common.{subst}
 use Rattle.ctr_model.specs.Database.{Database}
 use Rattle.ctr_model.specs.State.{at_rest}
-use Rattle.ctr_record_effects.specs.States.{area_in}
+use Rattle.ctr_passed.specs.record_effects_States.{area_in}
 use Rattle.ctr_kept.specs.ctr_names.Held.{names_of_items}
-use Rattle.ctr_actions.specs.Sites.{site_of}
-use Rattle.ctr_paged.specs.Paged.{at_open}
-use Rattle.ctr_paged.specs.Shown.{IsShown}
+use Rattle.ctr_passed.specs.actions_Sites.{site_of}
+use Rattle.ctr_kept.specs.ctr_paged.Paged.{at_open}
+use Rattle.ctr_kept.specs.ctr_paged.Shown.{IsShown}
 use Rattle.ctr_stops.proofs.stops.what_is_left_opens.Goals as goal
 
 pub returns : goal.returns

@@ -1,6 +1,6 @@
 use Rattle.std.proofs.Common.{◌⊎◌, ◌∙◌, inl, inr, Ok, ap, ⊎_elim}
 use Rattle.ctr_disk.proofs.Moments.{weaker}
-use Rattle.ctr_redo.proofs.NewLaws.{folds_new}
+use Rattle.ctr_base.proofs.redo_NewLaws.{folds_new}
 use Rattle.ctr_store.specs.Creating.{IsNoneOrNew, IsNoneOrEmptyStore}
 use Rattle.ctr_store.proofs.CreateLaws.{empty_of}
 use Rattle.ctr_store.proofs.creating.create.Goals as goal

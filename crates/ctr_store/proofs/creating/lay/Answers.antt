@@ -1,9 +1,9 @@
-use Rattle.ctr_home.specs.declared.block.Block.TheVariants.{Root as RootBlock}
-use Rattle.ctr_home.specs.Roots.{root_block}
-use Rattle.ctr_home.specs.Writing.{IsOldOrNewValue}
+use Rattle.ctr_base.specs.ctr_home.declared.block.Block.TheVariants.{Root as RootBlock}
+use Rattle.ctr_base.specs.ctr_home.Roots.{root_block}
+use Rattle.ctr_base.specs.ctr_home.Writing.{IsOldOrNewValue}
 use Rattle.ctr_disk.proofs.Moments.{weaker, joined, on_ok, settled_by}
-use Rattle.ctr_log.specs.Fresh.{SameRoot}
-use Rattle.ctr_redo.specs.Images.{new_root, IsNewDatabase}
+use Rattle.ctr_base.specs.log_Fresh.{SameRoot}
+use Rattle.ctr_base.specs.redo_Images.{new_root, IsNewDatabase}
 use Rattle.ctr_base.specs.Extent.{KeepsPages}
 use Rattle.ctr_store.specs.Creating.{IsNoneOrNew}
 use Rattle.ctr_store.proofs.CreateLaws.{none_logs, none_cleared, none_one, new_made, new_step}

@@ -1,5 +1,5 @@
 use Rattle.std.proofs.Common.{⊎_elim}
-use Rattle.ctr_redo.proofs.NewLaws.{folds_new}
+use Rattle.ctr_base.proofs.redo_NewLaws.{folds_new}
 use Rattle.ctr_store.proofs.laws.what_a_crash_leaves_is_sound.Goals as goal
 
 pub returns-clause-front : goal.returns-clause-front

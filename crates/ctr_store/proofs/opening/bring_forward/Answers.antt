@@ -1,6 +1,6 @@
 use Rattle.std.proofs.Common.{◌≡◌, ◌∙◌, ◌+◌, List, ℕ, length, refl, sym, ap, subst, arith}
-use Rattle.ctr_log.specs.Visits.{kept_visits, visit_bytes, AreNumbered}
-use Rattle.ctr_log.proofs.VisitLaws.{kept_bytes, kept_numbers}
+use Rattle.ctr_base.specs.log_Visits.{kept_visits, visit_bytes, AreNumbered}
+use Rattle.ctr_base.proofs.log_VisitLaws.{kept_bytes, kept_numbers}
 use Rattle.ctr_base.specs.declared.base.Base.{Base}
 use Rattle.ctr_base.specs.BaseLaws.{quiet_leaves}
 use Rattle.ctr_store.specs.RecordChecks.{AllPass, tables_seen}

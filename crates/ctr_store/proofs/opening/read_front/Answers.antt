@@ -1,11 +1,11 @@
 use Rattle.std.proofs.Common.{◌∙◌, sym, subst}
 use Rattle.std.proofs.lemmas.Result.{err_from_is_err_and}
 use Rattle.ctr_disk.specs.Image.{Image}
-use Rattle.ctr_home.specs.declared.root.Root.{Root}
-use Rattle.ctr_home.specs.declared.block.Block.TheVariants.{Root as RootBlock}
-use Rattle.ctr_home.specs.Blocks.{value_of}
-use Rattle.ctr_home.specs.Reading.{IsFaultOr}
-use Rattle.ctr_redo.specs.Images.{IsSound}
+use Rattle.ctr_base.specs.ctr_home.declared.root.Root.{Root}
+use Rattle.ctr_base.specs.ctr_home.declared.block.Block.TheVariants.{Root as RootBlock}
+use Rattle.ctr_base.specs.ctr_home.Blocks.{value_of}
+use Rattle.ctr_base.specs.ctr_home.Reading.{IsFaultOr}
+use Rattle.ctr_base.specs.redo_Images.{IsSound}
 use Rattle.ctr_base.specs.Opening.{FindsRoot, IsRootDamage}
 use Rattle.ctr_base.proofs.RootLaws.{one_root}
 use Rattle.ctr_store.specs.Opening.{RefusesLog}

@@ -1,14 +1,14 @@
 use Rattle.std.proofs.Common.{◌≡◌, ◌∙◌, ℕ, List, [], sym, ap, subst}
 use Rattle.std.specs.Prelude.{IsTrue}
 use Rattle.std.proofs.lemmas.Result.{err_from_is_err_and}
-use Rattle.ctr_home.specs.declared.block.Block.TheVariants.{Root as RootBlock}
-use Rattle.ctr_home.specs.Blocks.{value_of}
-use Rattle.ctr_log.specs.declared.visitor.Visit.{Visit}
-use Rattle.ctr_log.specs.Logs.{Log}
-use Rattle.ctr_log.specs.Kept.{OpensKept, WritesBehind}
-use Rattle.ctr_log.specs.Visits.{kept_visits}
+use Rattle.ctr_base.specs.ctr_home.declared.block.Block.TheVariants.{Root as RootBlock}
+use Rattle.ctr_base.specs.ctr_home.Blocks.{value_of}
+use Rattle.ctr_base.specs.log_Visit.{Visit}
+use Rattle.ctr_base.specs.log_Logs.{Log}
+use Rattle.ctr_base.specs.log_Kept.{OpensKept, WritesBehind}
+use Rattle.ctr_base.specs.log_Visits.{kept_visits}
 use Rattle.ctr_base.proofs.RootLaws.{one_root}
-use Rattle.ctr_home.specs.declared.root.Root.{Root}
+use Rattle.ctr_base.specs.ctr_home.declared.root.Root.{Root}
 use Rattle.ctr_store.specs.RecordChecks.{CountsPages, AllPass, tables_seen}
 use Rattle.ctr_store.proofs.OpenLaws.{opens_room, writes_room, fresh_seen, log_refused, log_faults}
 use Rattle.ctr_store.proofs.SoundLaws.{log_undamaged}

@@ -7,13 +7,13 @@ use Rattle.ctr_model.specs.declared.state.State.{State}
 use Rattle.ctr_model.specs.declared.state.Transaction.{Transaction}
 use Rattle.ctr_model.specs.State.{transaction_of}
 use Rattle.ctr_model.proofs.Sessions.{find-without-other, find-without-same}
-use Rattle.ctr_actions.specs.Sites.{site_of}
+use Rattle.ctr_views.specs.actions_Sites.{site_of}
 use Rattle.ctr_redo.specs.States.{State as Stored}
 use Rattle.ctr_versions.proofs.Keys.{known}
-use Rattle.ctr_kept.specs.Turns.{AnswersEach, KeepsRun, entry_of, point_now, state_now, telling}
+use Rattle.ctr_rollback.specs.kept_Turns.{AnswersEach, KeepsRun, entry_of, point_now, state_now, telling}
 use Rattle.ctr_legal.specs.Laws.{answer_entry}
-use Rattle.ctr_kept.proofs.Answering.{answer_turn}
-use Rattle.ctr_kept.proofs.Walking.{keeps_reached}
+use Rattle.ctr_rollback.proofs.kept_Answering.{answer_turn}
+use Rattle.ctr_rollback.proofs.kept_Walking.{keeps_reached}
 use Rattle.ctr_told.specs.Turning.{answered_mind}
 use Rattle.ctr_told.proofs.Acting.{act_of}
 use Rattle.ctr_told.proofs.Answered.{answer_leaves}

@@ -2,15 +2,15 @@ use Rattle.std.proofs.Common.{◌+◌, [], Some, length, refl, ap, subst}
 use Rattle.ctr_types.specs.declared.tape.Act.TheVariants as act
 use Rattle.ctr_types.specs.declared.tape.Reply.TheVariants as reply
 use Rattle.ctr_versions.proofs.Keys.{known}
-use Rattle.ctr_actions.specs.Actions.{Commits}
-use Rattle.ctr_actions.specs.Facts.{IsOpen, HasNoPageBut}
-use Rattle.ctr_actions.specs.Sites.{Site, site_of}
-use Rattle.ctr_paged.specs.Moving.{IsActing, AsksCommit}
-use Rattle.ctr_kept.specs.Walk.{Mind}
-use Rattle.ctr_kept.specs.Turns.{InTransaction, asked_scene, carrying, entry_of, scene_now, state_now, telling}
-use Rattle.ctr_kept.proofs.Tables.{no_blank, titles_held, carries_more, uses_more}
-use Rattle.ctr_kept.proofs.Walking.{keeps_reached}
-use Rattle.ctr_stops.specs.World.{KeepsWorld}
+use Rattle.ctr_rollback.specs.actions_Actions.{Commits}
+use Rattle.ctr_rollback.specs.actions_Facts.{IsOpen, HasNoPageBut}
+use Rattle.ctr_views.specs.actions_Sites.{Site, site_of}
+use Rattle.ctr_rollback.specs.paged_Moving.{IsActing, AsksCommit}
+use Rattle.ctr_rollback.specs.kept_Walk.{Mind}
+use Rattle.ctr_rollback.specs.kept_Turns.{InTransaction, asked_scene, carrying, entry_of, scene_now, state_now, telling}
+use Rattle.ctr_rollback.proofs.kept_Tables.{no_blank, titles_held, carries_more, uses_more}
+use Rattle.ctr_rollback.proofs.kept_Walking.{keeps_reached}
+use Rattle.ctr_rollback.specs.stops_World.{KeepsWorld}
 use Rattle.ctr_rollback.proofs.Worlds.{carries_none}
 use Rattle.ctr_told.proofs.Acting.{is_ready, asked_now}
 use Rattle.ctr_told.proofs.Idle.{idle_open, idle_none}

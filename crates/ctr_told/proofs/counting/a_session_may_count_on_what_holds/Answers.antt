@@ -1,7 +1,7 @@
 use Rattle.std.proofs.Common.{refl}
-use Rattle.ctr_actions.specs.Sites.{site_of}
-use Rattle.ctr_kept.specs.Turns.{carrying}
-use Rattle.ctr_stops.proofs.Blanks.{silent_pages}
+use Rattle.ctr_views.specs.actions_Sites.{site_of}
+use Rattle.ctr_rollback.specs.kept_Turns.{carrying}
+use Rattle.ctr_rollback.proofs.stops_Blanks.{silent_pages}
 use Rattle.ctr_told.proofs.Facts.{counts_now, no_more}
 use Rattle.ctr_told.proofs.counting.a_session_may_count_on_what_holds.Goals as goal
 

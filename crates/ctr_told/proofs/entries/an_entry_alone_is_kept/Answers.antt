@@ -3,8 +3,8 @@ use Rattle.std.proofs.lemmas.List.{append-nil}
 use Rattle.ctr_model.specs.Tape.{statement_of, final}
 use Rattle.ctr_model.specs.declared.tape.Point.{Point}
 use Rattle.ctr_legal.proofs.Reached.{final_push}
-use Rattle.ctr_actions.specs.Sites.{site_of}
-use Rattle.ctr_kept.specs.Turns.{KeepsRun, start_point, state_now}
+use Rattle.ctr_views.specs.actions_Sites.{site_of}
+use Rattle.ctr_rollback.specs.kept_Turns.{KeepsRun, start_point, state_now}
 use Rattle.ctr_rollback.proofs.Worlds.{no_answer}
 use Rattle.ctr_told.proofs.entries.an_entry_alone_is_kept.Goals as goal
 

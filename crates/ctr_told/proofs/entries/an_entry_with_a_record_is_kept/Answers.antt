@@ -1,7 +1,7 @@
 use Rattle.std.proofs.Common.{[], ◌∷◌, sym, subst}
-use Rattle.ctr_actions.specs.Actions.{site_after}
-use Rattle.ctr_actions.specs.Sites.{Site, site_of}
-use Rattle.ctr_kept.specs.Turns.{KeepsRun}
+use Rattle.ctr_rollback.specs.actions_Actions.{site_after}
+use Rattle.ctr_views.specs.actions_Sites.{Site, site_of}
+use Rattle.ctr_rollback.specs.kept_Turns.{KeepsRun}
 use Rattle.ctr_rollback.proofs.Worlds.{no_answer}
 use Rattle.ctr_told.proofs.entries.an_entry_with_a_record_is_kept.Goals as goal
 

@@ -2,9 +2,9 @@ use Rattle.std.proofs.Common.{[], refl, sym, ap, subst}
 use Rattle.std.proofs.lemmas.List.{append-nil}
 use Rattle.ctr_model.specs.Texts.{answers}
 use Rattle.ctr_redo.specs.States.{State}
-use Rattle.ctr_store.specs.Store.{View}
-use Rattle.ctr_actions.specs.Sites.{site_of}
-use Rattle.ctr_kept.specs.Turns.{KeepsRun}
+use Rattle.ctr_rollback.specs.store_Store.{View}
+use Rattle.ctr_views.specs.actions_Sites.{site_of}
+use Rattle.ctr_rollback.specs.kept_Turns.{KeepsRun}
 use Rattle.ctr_told.proofs.Counts.{grown_few, grown_above}
 use Rattle.ctr_told.proofs.growing.growth_behind_pages_keeps_a_world.Goals as goal
 

@@ -10,13 +10,13 @@ use Rattle.ctr_versions.specs.Engine.{SessionHeld}
 use Rattle.ctr_versions.proofs.Keys.{known}
 use Rattle.ctr_page.specs.declared.header.Header.{Header}
 use Rattle.ctr_area.specs.Sound.{IsAmong}
-use Rattle.ctr_actions.specs.Actions.{Begins, site_after}
-use Rattle.ctr_actions.specs.Facts.{Fact, HasBlank}
-use Rattle.ctr_actions.specs.Sites.{Site, site_of}
+use Rattle.ctr_rollback.specs.actions_Actions.{Begins, site_after}
+use Rattle.ctr_rollback.specs.actions_Facts.{Fact, HasBlank}
+use Rattle.ctr_views.specs.actions_Sites.{Site, site_of}
 use Rattle.ctr_sessions.specs.Sessions.{IsDrawnFor}
-use Rattle.ctr_paged.specs.Moving.{IsActing, DrawsNumber}
-use Rattle.ctr_kept.specs.Turns.{KeepsRun, drawn_mind, drawn_scene, entry_of, granted_to, point_now, scene_now, state_now, telling}
-use Rattle.ctr_kept.proofs.Walking.{keeps_reached}
+use Rattle.ctr_rollback.specs.paged_Moving.{IsActing, DrawsNumber}
+use Rattle.ctr_rollback.specs.kept_Turns.{KeepsRun, drawn_mind, drawn_scene, entry_of, granted_to, point_now, scene_now, state_now, telling}
+use Rattle.ctr_rollback.proofs.kept_Walking.{keeps_reached}
 use Rattle.ctr_rollback.proofs.Worlds.{no_answer}
 use Rattle.ctr_told.specs.Turning.{facts_idle}
 use Rattle.ctr_told.proofs.Acting.{act_of, is_ready}

@@ -3,11 +3,11 @@ use Rattle.std.proofs.lemmas.Bool.{false≢true}
 use Rattle.ctr_types.specs.declared.tape.Act.TheVariants as act
 use Rattle.ctr_types.specs.declared.tape.Reply.TheVariants as reply
 use Rattle.ctr_model.specs.Tape.{progress_of}
-use Rattle.ctr_actions.specs.Facts.{IsOpen, HasNoPageBut}
-use Rattle.ctr_actions.specs.Sites.{site_of}
+use Rattle.ctr_rollback.specs.actions_Facts.{IsOpen, HasNoPageBut}
+use Rattle.ctr_views.specs.actions_Sites.{site_of}
 use Rattle.ctr_sessions.specs.Sessions.{IsDrawnFor}
-use Rattle.ctr_kept.specs.Turns.{carrying, entry_of, granted_to, point_now, state_now, telling}
-use Rattle.ctr_kept.proofs.Tables.{uses_more}
+use Rattle.ctr_rollback.specs.kept_Turns.{carrying, entry_of, granted_to, point_now, state_now, telling}
+use Rattle.ctr_rollback.proofs.kept_Tables.{uses_more}
 use Rattle.ctr_told.specs.Turning.{facts_idle}
 use Rattle.ctr_told.proofs.Acting.{act_of}
 use Rattle.ctr_told.proofs.Facts.{no_more}

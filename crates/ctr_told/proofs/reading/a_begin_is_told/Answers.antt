@@ -2,9 +2,9 @@ use Rattle.std.proofs.Common.{refl}
 use Rattle.ctr_types.specs.declared.tape.Act.TheVariants as act
 use Rattle.ctr_types.specs.declared.tape.Reply.TheVariants as reply
 use Rattle.ctr_model.proofs.Sessions.{find-put-other}
-use Rattle.ctr_actions.specs.Sites.{site_of}
-use Rattle.ctr_paged.specs.Moving.{begun_now}
-use Rattle.ctr_kept.specs.Turns.{begun_mind, entry_of, state_now, telling}
+use Rattle.ctr_views.specs.actions_Sites.{site_of}
+use Rattle.ctr_rollback.specs.paged_Moving.{begun_now}
+use Rattle.ctr_rollback.specs.kept_Turns.{begun_mind, entry_of, state_now, telling}
 use Rattle.ctr_told.proofs.Silent.{none_more}
 use Rattle.ctr_told.proofs.reading.a_begin_is_told.Goals as goal
 

@@ -2,8 +2,8 @@ use Rattle.std.proofs.Common.{refl}
 use Rattle.ctr_types.specs.declared.tape.Act.TheVariants as act
 use Rattle.ctr_types.specs.declared.tape.Reply.TheVariants as reply
 use Rattle.ctr_model.proofs.Sessions.{find-without-other}
-use Rattle.ctr_actions.specs.Sites.{site_of}
-use Rattle.ctr_kept.specs.Turns.{entry_of, gone_mind, telling}
+use Rattle.ctr_views.specs.actions_Sites.{site_of}
+use Rattle.ctr_rollback.specs.kept_Turns.{entry_of, gone_mind, telling}
 use Rattle.ctr_told.proofs.Silent.{none_more}
 use Rattle.ctr_told.proofs.reading.a_reader_that_ends_is_told.Goals as goal
 

@@ -1,8 +1,8 @@
 use Rattle.std.proofs.Common.{refl, subst}
 use Rattle.ctr_types.specs.declared.tape.Reply.TheVariants as reply
-use Rattle.ctr_actions.specs.Sites.{site_of}
-use Rattle.ctr_kept.specs.Turns.{KeepsRun, entry_of, telling}
-use Rattle.ctr_kept.specs.Walk.{Mind}
+use Rattle.ctr_views.specs.actions_Sites.{site_of}
+use Rattle.ctr_rollback.specs.kept_Turns.{KeepsRun, entry_of, telling}
+use Rattle.ctr_rollback.specs.kept_Walk.{Mind}
 use Rattle.ctr_told.proofs.Silent.{carries_its, same_carried}
 use Rattle.ctr_told.proofs.reading.a_refusal_is_told.Goals as goal
 

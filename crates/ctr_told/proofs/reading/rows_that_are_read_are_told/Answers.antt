@@ -1,13 +1,13 @@
 use Rattle.std.proofs.Common.{refl, sym, ◌∙◌, subst}
 use Rattle.ctr_types.specs.declared.tape.Act.TheVariants as act
 use Rattle.ctr_types.specs.declared.tape.Reply.TheVariants as reply
-use Rattle.ctr_actions.specs.Sites.{site_of}
-use Rattle.ctr_kept.specs.Turns.{KeepsRun, entry_of, telling}
-use Rattle.ctr_kept.specs.Walk.{Mind}
+use Rattle.ctr_views.specs.actions_Sites.{site_of}
+use Rattle.ctr_rollback.specs.kept_Turns.{KeepsRun, entry_of, telling}
+use Rattle.ctr_rollback.specs.kept_Walk.{Mind}
 use Rattle.ctr_model.specs.Reply.{with_read}
 use Rattle.ctr_sessions.specs.Sessions.{IsDrawnFor}
 use Rattle.std.specs.Prelude.{Some}
-use Rattle.ctr_kept.proofs.Tables.{uses_more}
+use Rattle.ctr_rollback.proofs.kept_Tables.{uses_more}
 use Rattle.ctr_told.proofs.Granting.{read_so, read_writer}
 use Rattle.ctr_told.proofs.Silent.{carries_idle, same_carried}
 use Rattle.ctr_told.proofs.reading.rows_that_are_read_are_told.Goals as goal

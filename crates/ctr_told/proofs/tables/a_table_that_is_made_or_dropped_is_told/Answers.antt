@@ -10,14 +10,14 @@ use Rattle.ctr_versions.specs.Laws.{with_own}
 use Rattle.ctr_versions.specs.Versions.{name_written}
 use Rattle.ctr_area.specs.Changes.{new_title}
 use Rattle.ctr_area.specs.Images.{made_by_entry}
-use Rattle.ctr_record_effects.specs.States.{area_in}
-use Rattle.ctr_names.proofs.Entries.{name_of}
-use Rattle.ctr_actions.specs.Actions.{Creates, Drops, site_after}
-use Rattle.ctr_actions.specs.Facts.{Fact, IsOpen, HasNoPageBut, HasTable, HoldsFact}
-use Rattle.ctr_actions.specs.Sites.{site_of}
-use Rattle.ctr_paged.specs.Moving.{WritesName, with_its}
-use Rattle.ctr_kept.specs.Turns.{carrying, entry_of, scene_now, state_now, telling}
-use Rattle.ctr_kept.proofs.Tables.{uses_more}
+use Rattle.ctr_rollback.specs.record_effects_States.{area_in}
+use Rattle.ctr_views.proofs.names_Entries.{name_of}
+use Rattle.ctr_rollback.specs.actions_Actions.{Creates, Drops, site_after}
+use Rattle.ctr_rollback.specs.actions_Facts.{Fact, IsOpen, HasNoPageBut, HasTable, HoldsFact}
+use Rattle.ctr_views.specs.actions_Sites.{site_of}
+use Rattle.ctr_rollback.specs.paged_Moving.{WritesName, with_its}
+use Rattle.ctr_rollback.specs.kept_Turns.{carrying, entry_of, scene_now, state_now, telling}
+use Rattle.ctr_rollback.proofs.kept_Tables.{uses_more}
 use Rattle.ctr_told.specs.Turning.{facts_idle}
 use Rattle.ctr_told.proofs.Idle.{carried_more, idle_blanks}
 use Rattle.ctr_told.proofs.Tabled.{acting, is_open, no_page, name_quiet, tables_held, tables_under, apart_free, by_table}

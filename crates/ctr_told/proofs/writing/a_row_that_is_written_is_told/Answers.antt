@@ -13,18 +13,18 @@ use Rattle.ctr_model.specs.Refusals.{has_lock}
 use Rattle.ctr_legal.specs.Ready.{HasKey}
 use Rattle.ctr_sessions.specs.Answers.{Seat}
 use Rattle.ctr_sessions.specs.Laws.{IsSeat}
-use Rattle.ctr_actions.specs.Actions.{Writes, site_after}
-use Rattle.ctr_actions.specs.Facts.{Fact, IsOpen, HasTable, HasBlank, HasNoPageBut}
-use Rattle.ctr_actions.specs.Sites.{site_of}
+use Rattle.ctr_rollback.specs.actions_Actions.{Writes, site_after}
+use Rattle.ctr_rollback.specs.actions_Facts.{Fact, IsOpen, HasTable, HasBlank, HasNoPageBut}
+use Rattle.ctr_views.specs.actions_Sites.{site_of}
 use Rattle.ctr_area.specs.Sound.{IsAmong}
-use Rattle.ctr_paged.specs.Moving.{IsActing, WritesRow, with_its}
-use Rattle.ctr_paged.specs.Paged.{engine_at}
+use Rattle.ctr_rollback.specs.paged_Moving.{IsActing, WritesRow, with_its}
+use Rattle.ctr_views.specs.paged_Paged.{engine_at}
 use Rattle.ctr_views.specs.Viewing.{Viewer}
 use Rattle.ctr_views.proofs.Looking.{session_shown}
 use Rattle.ctr_views.proofs.Reading.{found_made}
-use Rattle.ctr_kept.specs.Turns.{carrying, entry_of, scene_now, state_now, telling}
-use Rattle.ctr_kept.proofs.Tables.{by_parts, no_blank, titles_held, carries_more, uses_more}
-use Rattle.ctr_kept.proofs.Walking.{keeps_reached, keeps_begun}
+use Rattle.ctr_rollback.specs.kept_Turns.{carrying, entry_of, scene_now, state_now, telling}
+use Rattle.ctr_rollback.proofs.kept_Tables.{by_parts, no_blank, titles_held, carries_more, uses_more}
+use Rattle.ctr_rollback.proofs.kept_Walking.{keeps_reached, keeps_begun}
 use Rattle.ctr_write.specs.Carrying.{wish_of, facts_looking}
 use Rattle.ctr_write.specs.declared.stages.Written.TheVariants.{Done}
 use Rattle.ctr_write.specs.Laying.{move_of}

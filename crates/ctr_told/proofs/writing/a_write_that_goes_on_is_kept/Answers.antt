@@ -1,8 +1,8 @@
 use Rattle.std.proofs.Common.{inl, inr, List, refl, sym, ◌∙◌, ap, subst}
 use Rattle.ctr_area.specs.Areas.{Slot}
-use Rattle.ctr_actions.specs.Facts.{Fact, HasSlot, HasTable}
+use Rattle.ctr_rollback.specs.actions_Facts.{Fact, HasSlot, HasTable}
 use Rattle.ctr_area.specs.Sound.{IsAmong}
-use Rattle.ctr_kept.proofs.Tables.{among_first}
+use Rattle.ctr_rollback.proofs.kept_Tables.{among_first}
 use Rattle.ctr_write.specs.Carrying.{facts_kept}
 use Rattle.ctr_write.proofs.Carried.{opens_table}
 use Rattle.ctr_told.proofs.Going.{goes_on, chain_of_table}

@@ -1,7 +1,7 @@
 use Rattle.std.proofs.Common.{length, replicate, sym, ◌∙◌, ap}
 use Rattle.std.proofs.lemmas.List.{take-replicate}
 use Rattle.ctr_page.specs.declared.rows.RowSlot.{RowSlot}
-use Rattle.ctr_heap.specs.Writing.{slot_width}
+use Rattle.ctr_undamaged.specs.heap_Writing.{slot_width}
 use Rattle.ctr_trim.proofs.slots.trimmed.Goals as goal
 
 pub left-slot-requires : goal.left-slot-requires

@@ -25,12 +25,12 @@ use Rattle.ctr_actions.specs.Sites.{site_of}
 use Rattle.ctr_actions.specs.Actions.{Trims, site_after}
 use Rattle.ctr_passed.specs.Laid.{width_in}
 use Rattle.ctr_passed.specs.Logged.{IsSlotOf}
-use Rattle.ctr_heap.specs.Writing.{slot_width}
+use Rattle.ctr_undamaged.specs.heap_Writing.{slot_width}
 use Rattle.ctr_bytes.specs.Following.{◌>>=◌}
 use Rattle.ctr_page.specs.declared.rows.Place.{Place}
 use Rattle.ctr_pvs.specs.Table.{owner_of}
 use Rattle.ctr_pvs.specs.Reading.{row_check_at}
-use Rattle.ctr_revert.specs.Reverting.{behind_check, row_slot_at, revert_check}
+use Rattle.ctr_undamaged.specs.revert_Reverting.{behind_check, row_slot_at, revert_check}
 use Rattle.ctr_undamaged.specs.Undamaged.{MeetsNoDamage}
 use Rattle.ctr_page_turns.specs.Acts.{ActsBy}
 use Rattle.ctr_trim.specs.Trimming.{trimming_by, slot_left, trim_record, EndsCheck, IsSlotThere}

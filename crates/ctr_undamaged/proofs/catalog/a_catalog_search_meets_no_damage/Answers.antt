@@ -1,4 +1,4 @@
-use Rattle.ctr_record_effects.specs.States.{pages_in}
+use Rattle.ctr_heap.specs.record_effects_States.{pages_in}
 use Rattle.ctr_catalog.specs.Finding.{checks_at, EndsEntries, EndsEntry}
 use Rattle.ctr_catalog.specs.Free.{EndsCatalog}
 use Rattle.ctr_undamaged.proofs.Entries.{meets, entries_whole, entry_whole, free_whole}

@@ -1,7 +1,7 @@
 use Rattle.std.proofs.Common.{◌∙◌, Some, sym, ap}
 use Rattle.ctr_page.specs.Places.{slot_size}
 use Rattle.ctr_page.specs.Making.{slot_bytes}
-use Rattle.ctr_record_effects.specs.Changing.{laid_on_place}
+use Rattle.ctr_heap.specs.record_effects_Changing.{laid_on_place}
 use Rattle.ctr_undamaged.proofs.laying.a_slot_is_put_at_its_place.Goals as goal
 
 pub returns-clause-width : goal.returns-clause-width

@@ -2,15 +2,15 @@ use Rattle.std.proofs.Common.{◌≡◌, ℕ, ◌+◌, ◌≤◌, ◌<◌, List,
 use Rattle.ctr_page.specs.declared.rows.Place.{Place}
 use Rattle.ctr_page.specs.declared.table.TheConstants.{PAGE_SIZE}
 use Rattle.ctr_page.specs.Places.{start_of}
-use Rattle.ctr_area.specs.Changes.{IsPlaceOf}
+use Rattle.ctr_heap.specs.area_Changes.{IsPlaceOf}
 use Rattle.ctr_page.specs.Columns.{kinds_of, kinds_width, columns_in}
 use Rattle.ctr_page.proofs.Holding.{kinds_wide}
 use Rattle.ctr_page.proofs.Searches.{lies_on_page}
-use Rattle.ctr_area.specs.Reading.{header_on, columns_on, width_on, size_on, entry_bytes, area_of}
-use Rattle.ctr_area.proofs.Buckets.{on_chain}
-use Rattle.ctr_record_effects.specs.States.{pages_in}
-use Rattle.ctr_record_laws.proofs.Members.{among_flat}
-use Rattle.ctr_area.specs.Chains.{places_from}
+use Rattle.ctr_heap.specs.area_Reading.{header_on, columns_on, width_on, size_on, entry_bytes, area_of}
+use Rattle.ctr_heap.proofs.area_Buckets.{on_chain}
+use Rattle.ctr_heap.specs.record_effects_States.{pages_in}
+use Rattle.ctr_heap.proofs.record_laws_Members.{among_flat}
+use Rattle.ctr_heap.specs.area_Chains.{places_from}
 use Rattle.ctr_undamaged.proofs.Walks.{rows_room, versions_room}
 use Rattle.ctr_undamaged.proofs.There.{slot_page, older_page}
 use Rattle.ctr_undamaged.proofs.places.a_place_of_a_table_fits.Goals as goal

@@ -5,9 +5,9 @@ use Rattle.ctr_page.specs.Reading.{piece}
 use Rattle.ctr_page.specs.Readable.{PartsHaveRoom}
 use Rattle.ctr_page.specs.Columns.{entry_in, entry_at, first_in, versions_first_in}
 use Rattle.ctr_page.proofs.Holding.{entry_parts}
-use Rattle.ctr_area.specs.Areas.{no_pages}
-use Rattle.ctr_area.specs.Reading.{title_of, entry_bytes, bucket_numbers, area_of}
-use Rattle.ctr_record_effects.specs.States.{pages_in}
+use Rattle.ctr_heap.specs.area_Areas.{no_pages}
+use Rattle.ctr_heap.specs.area_Reading.{title_of, entry_bytes, bucket_numbers, area_of}
+use Rattle.ctr_heap.specs.record_effects_States.{pages_in}
 use Rattle.ctr_undamaged.proofs.places.a_table_can_be_linked_to.Goals as goal
 
 pub returns-clause-parts : goal.returns-clause-parts

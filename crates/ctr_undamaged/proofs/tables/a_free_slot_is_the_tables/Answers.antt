@@ -1,4 +1,4 @@
-use Rattle.ctr_area.proofs.Buckets.{of_bucket, nothing_from_0}
+use Rattle.ctr_heap.proofs.area_Buckets.{of_bucket, nothing_from_0}
 use Rattle.ctr_undamaged.proofs.tables.a_free_slot_is_the_tables.Goals as goal
 
 pub returns : goal.returns

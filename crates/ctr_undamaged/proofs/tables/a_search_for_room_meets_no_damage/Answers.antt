@@ -1,4 +1,4 @@
-use Rattle.ctr_record_effects.specs.States.{pages_in}
+use Rattle.ctr_heap.specs.record_effects_States.{pages_in}
 use Rattle.ctr_chain.specs.ctr_pvs.Along.{EndsVersions}
 use Rattle.ctr_undamaged.proofs.Entries.{meets}
 use Rattle.ctr_undamaged.proofs.Walks.{versions_whole}

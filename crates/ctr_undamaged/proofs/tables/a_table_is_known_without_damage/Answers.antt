@@ -1,4 +1,4 @@
-use Rattle.ctr_record_effects.specs.States.{pages_in}
+use Rattle.ctr_heap.specs.record_effects_States.{pages_in}
 use Rattle.ctr_chain.specs.ctr_pvs.Table.{table_check, TableSaid}
 use Rattle.ctr_undamaged.proofs.Entries.{meets, passes_or_fails}
 use Rattle.ctr_undamaged.proofs.There.{table_passes, older_page, slot_page}

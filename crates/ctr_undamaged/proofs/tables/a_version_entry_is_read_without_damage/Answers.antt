@@ -1,6 +1,6 @@
 use Rattle.std.proofs.Common.{◌≡◌, sym}
 use Rattle.std.specs.Prelude.{⊤}
-use Rattle.ctr_record_effects.specs.States.{pages_in}
+use Rattle.ctr_heap.specs.record_effects_States.{pages_in}
 use Rattle.ctr_chain.specs.ctr_pvs.Lending.{VersionSaidAt}
 use Rattle.ctr_chain.specs.ctr_pvs.Reading.{version_check_at}
 use Rattle.ctr_chain.specs.ctr_pvs.Writing.{drop_check}

@@ -1,6 +1,6 @@
 use Rattle.std.proofs.Common.{◌≡◌, sym}
 use Rattle.std.specs.Prelude.{⊤}
-use Rattle.ctr_record_effects.specs.States.{pages_in}
+use Rattle.ctr_heap.specs.record_effects_States.{pages_in}
 use Rattle.ctr_revert.specs.Reverting.{revert_check}
 use Rattle.ctr_undamaged.proofs.Entries.{meets, passes_or_fails}
 use Rattle.ctr_undamaged.proofs.Lost.{revert_passes}

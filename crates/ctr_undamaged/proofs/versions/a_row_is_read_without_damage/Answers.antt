@@ -1,5 +1,5 @@
 use Rattle.std.proofs.Common.{◌≡◌}
-use Rattle.ctr_record_effects.specs.States.{pages_in}
+use Rattle.ctr_heap.specs.record_effects_States.{pages_in}
 use Rattle.ctr_chain.specs.Seeking.{sought_at, xids_found}
 use Rattle.ctr_chain.specs.Visible.{EndsReading}
 use Rattle.ctr_undamaged.proofs.Entries.{meets}

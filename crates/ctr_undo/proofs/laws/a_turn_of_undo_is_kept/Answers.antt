@@ -2,7 +2,7 @@ use Rattle.std.proofs.Common.{[], ◌∷◌, refl, sym, ap, subst}
 use Rattle.std.proofs.lemmas.List.{append-nil}
 use Rattle.ctr_model.specs.Texts.{answers}
 use Rattle.ctr_actions.specs.Sites.{Site, site_of}
-use Rattle.ctr_kept.specs.Turns.{KeepsRun, release_entry}
+use Rattle.ctr_rollback.specs.kept_Turns.{KeepsRun, release_entry}
 use Rattle.ctr_rollback.proofs.Worlds.{no_answer}
 use Rattle.ctr_undo.specs.Turns.{undo_actor, undo_action}
 use Rattle.ctr_undo.specs.Keeping.{undone_to, name_undone, released_to}

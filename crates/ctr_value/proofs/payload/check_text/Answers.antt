@@ -1,5 +1,5 @@
 use Rattle.std.proofs.Common.{◌+◌, take, drop, slice_index, refl}
-use Rattle.ctr_types.specs.declared.value.Value.TheVariants as value
+use Rattle.ctr_print.specs.types_Value.TheVariants as value
 use Rattle.ctr_value.proofs.PayloadLoops.{text_found}
 use Rattle.ctr_value.proofs.payload.check_text.Goals as goal
 

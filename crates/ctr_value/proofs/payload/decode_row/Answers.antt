@@ -1,7 +1,7 @@
 use Rattle.std.proofs.Common.{◌≡◌, ◌∙◌, ◌∷◌, ap, sym, subst, drop, arith, w64}
 use Rattle.std.proofs.lemmas.Int.{to_z-of_z}
 use Rattle.std.proofs.lemmas.Result.{err_from_is_err_and}
-use Rattle.ctr_types.specs.declared.value.Value.TheVariants as value
+use Rattle.ctr_print.specs.types_Value.TheVariants as value
 use Rattle.ctr_value.specs.Payload.{AreOf, kinds_width, width, IsPayload, HasBadField, IsRowOf, IsNoPayload}
 use Rattle.ctr_value.specs.Values.{row_values}
 use Rattle.ctr_value.proofs.PayloadLaws.{kinds_wide}

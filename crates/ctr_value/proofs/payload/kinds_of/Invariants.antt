@@ -1,5 +1,5 @@
 use Rattle.std.proofs.Common.{◌≡◌, map, take, length}
-use Rattle.ctr_types.specs.declared.value.Column.{Column}
+use Rattle.ctr_print.specs.types_Column.{Column}
 use Rattle.ctr_value.proofs.payload.kinds_of.Given as goal
 
 abbrev pub invariant-loop-i : goal.invariant-loop-i

@@ -2,9 +2,9 @@ use Rattle.std.proofs.Common.{sym, ◌∙◌, ap}
 use Rattle.std.specs.Prelude.{is_some}
 use Rattle.ctr_versions.specs.Chains.{above, newest_since}
 use Rattle.ctr_versions.specs.Xids.{number_of}
-use Rattle.ctr_area.specs.Images.{is_committed_in}
-use Rattle.ctr_record_laws.proofs.Slots.{slot_wasnt}
-use Rattle.ctr_names.proofs.Fates.{agrees}
+use Rattle.ctr_paged.specs.area_Images.{is_committed_in}
+use Rattle.ctr_paged.proofs.record_laws_Slots.{slot_wasnt}
+use Rattle.ctr_catalog.proofs.names_Fates.{agrees}
 use Rattle.ctr_paged.specs.Paged.{xids_of}
 use Rattle.ctr_views.proofs.Looking.{of_tables, session_shown}
 use Rattle.ctr_views.proofs.Changed.{rows_told, rows_refused}

@@ -5,7 +5,7 @@ use Rattle.std.proofs.lemmas.Bool.{false≢true}
 use Rattle.ctr_model.specs.declared.database.Table.{Table}
 use Rattle.ctr_model.specs.Database.{table_at}
 use Rattle.ctr_model.specs.State.{view}
-use Rattle.ctr_names.proofs.Search.{found_viewed, missed_viewed}
+use Rattle.ctr_paged.proofs.names_Search.{found_viewed, missed_viewed}
 use Rattle.ctr_paged.specs.Paged.{xids_of}
 use Rattle.ctr_views.proofs.Looking.{of_tables, names_shown, look, looking, found_as}
 use Rattle.ctr_views.proofs.names.what_find_answers_is_in_the_view.Goals as goal

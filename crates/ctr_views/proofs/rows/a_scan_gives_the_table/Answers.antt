@@ -5,7 +5,7 @@ use Rattle.ctr_types.specs.declared.value.Row.{Row}
 use Rattle.ctr_model.specs.Database.{table_at}
 use Rattle.ctr_model.specs.Refusals.{row_of}
 use Rattle.ctr_model.specs.State.{view}
-use Rattle.ctr_area.specs.Chains.{slot_places}
+use Rattle.ctr_paged.specs.area_Chains.{slot_places}
 use Rattle.ctr_views.specs.Scanning.{rows_scanned}
 use Rattle.ctr_views.specs.Viewing.{sees_by}
 use Rattle.ctr_views.proofs.Reading.{table_found, seen_rows, seen_sorted}

@@ -1,5 +1,5 @@
 use Rattle.std.proofs.Common.{◌<◌, sym, ap, subst}
-use Rattle.ctr_page.specs.declared.header.Header.{Header}
+use Rattle.ctr_record_effects.specs.page_Header.{Header}
 use Rattle.ctr_walk.proofs.Limits.{next_counted}
 use Rattle.ctr_walk.proofs.along.look_at.Goals as goal
 

@@ -1,9 +1,9 @@
 use Rattle.std.proofs.Common.{◌≡◌, inr, ◌-◌, suc, None, Some, Ok, Err, subst, arith}
 use Rattle.std.specs.Prelude.{IfOk}
 use Rattle.std.proofs.lemmas.Result.{err_from_is_err_and}
-use Rattle.ctr_redo.specs.States.{State}
-use Rattle.ctr_page.specs.declared.walk.BadChain.TheVariants.{OnPage}
-use Rattle.ctr_page.specs.declared.rows.Place.{Place}
+use Rattle.ctr_record_effects.specs.ctr_redo.States.{State}
+use Rattle.ctr_record_effects.specs.page_BadChain.TheVariants.{OnPage}
+use Rattle.ctr_record_effects.specs.page_Place.{Place}
 use Rattle.ctr_record_effects.specs.States.{pages_in}
 use Rattle.ctr_walk.specs.Damage.{searched, EndsOnPage}
 use Rattle.ctr_walk.specs.Along.{ChainSought, EndsPage, LooksAt, EndsAlong}

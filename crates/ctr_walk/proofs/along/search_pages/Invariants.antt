@@ -1,8 +1,8 @@
 use Rattle.std.proofs.Common.{◌≡◌, ◌<◌, Option, Result}
 use Rattle.std.specs.Prelude.{IsTrue}
-use Rattle.ctr_base.specs.Base.{IsSoundImage}
-use Rattle.ctr_page.specs.declared.rows.Place.{Place}
-use Rattle.ctr_page.specs.declared.walk.BadChain.{BadChain}
+use Rattle.ctr_store.specs.base_Base.{IsSoundImage}
+use Rattle.ctr_record_effects.specs.page_Place.{Place}
+use Rattle.ctr_record_effects.specs.page_BadChain.{BadChain}
 use Rattle.ctr_record_effects.specs.States.{pages_in}
 use Rattle.ctr_walk.specs.Along.{EndsAlong}
 use Rattle.ctr_walk.proofs.PagesRead.{HasRead}

@@ -1,4 +1,4 @@
-use Rattle.ctr_page.specs.Columns.{entry_at}
+use Rattle.ctr_record_effects.specs.page_Columns.{entry_at}
 use Rattle.ctr_walk.proofs.Entries.{entry_columns, are_named, columns_fit, columns_keyed}
 use Rattle.ctr_walk.proofs.columns.an_entry_has_columns.Goals as goal
 

@@ -1,7 +1,7 @@
 use Rattle.std.proofs.Common.{◌≡◌, ◌∙◌, ◌+◌, ◌/◌, ℕ, ◌<◌, sym, ap, subst}
 use Rattle.std.specs.Prelude.{IfOk}
-use Rattle.ctr_page.specs.Damage.{chain_entry}
-use Rattle.ctr_redo.specs.States.{page_limit}
+use Rattle.ctr_record_effects.specs.page_Damage.{chain_entry}
+use Rattle.ctr_record_effects.specs.ctr_redo.States.{page_limit}
 use Rattle.ctr_record_effects.specs.States.{pages_in}
 use Rattle.ctr_walk.specs.Damage.{searched, EndsOnPage}
 use Rattle.ctr_walk.specs.Tables.{first_said, chain_table_check, FirstSaid, EndsFirst}

@@ -1,9 +1,9 @@
 use Rattle.std.proofs.Common.{◌≡◌, ◌-◌, ◌*◌, ◌%◌, ◌<◌, ◌≤◌, ℕ, refl, sym, ◌∙◌, ap, subst, arith}
 use Rattle.std.proofs.lemmas.Bool.{eqb-false}
-use Rattle.ctr_page.specs.declared.entry.CatalogEntry.{CatalogEntry}
-use Rattle.ctr_page.specs.Columns.{entry_at}
-use Rattle.ctr_page.specs.Damage.{entry_check}
-use Rattle.ctr_page.specs.Readable.{HasParts}
+use Rattle.ctr_record_effects.specs.page_CatalogEntry.{CatalogEntry}
+use Rattle.ctr_record_effects.specs.page_Columns.{entry_at}
+use Rattle.ctr_record_effects.specs.page_Damage.{entry_check}
+use Rattle.ctr_record_effects.specs.page_Readable.{HasParts}
 use Rattle.ctr_bytes.specs.Fields.{field}
 use Rattle.ctr_walk.specs.Tables.{first_at, entry_number}
 use Rattle.ctr_walk.proofs.Firsts.{first_counted}

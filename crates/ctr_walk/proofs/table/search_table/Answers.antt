@@ -1,5 +1,5 @@
 use Rattle.std.proofs.Common.{◌+◌, ◌/◌, None, Ok, subst}
-use Rattle.ctr_page.specs.Damage.{chain_entry}
+use Rattle.ctr_record_effects.specs.page_Damage.{chain_entry}
 use Rattle.ctr_record_effects.specs.States.{pages_in}
 use Rattle.ctr_walk.proofs.Joins.{pages_join}
 use Rattle.ctr_walk.specs.Damage.{searched}

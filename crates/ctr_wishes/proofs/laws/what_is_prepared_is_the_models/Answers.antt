@@ -3,8 +3,8 @@ use Rattle.ctr_model.specs.Database.{table_at}
 use Rattle.ctr_model.specs.State.{view}
 use Rattle.ctr_model.specs.Refusals.{columns_of}
 use Rattle.ctr_record_effects.specs.States.{area_in}
-use Rattle.ctr_actions.specs.Sites.{site_of}
-use Rattle.ctr_views.specs.Viewing.{sees_by}
+use Rattle.ctr_reading.specs.actions_Sites.{site_of}
+use Rattle.ctr_reading.specs.ctr_views.Viewing.{sees_by}
 use Rattle.ctr_wishes.specs.Preparing.{IsMadeIn}
 use Rattle.ctr_wishes.proofs.Chains.{there_columns, seen_good}
 use Rattle.ctr_wishes.proofs.Modelled.{modelled}

@@ -1,6 +1,6 @@
 use Rattle.std.proofs.Common.{◌∙◌, ap}
 use Rattle.ctr_meta.specs.Tables.{Tables}
-use Rattle.ctr_page_turns.specs.Turns.{RestsBehind}
+use Rattle.ctr_undo.specs.page_turns_Turns.{RestsBehind}
 use Rattle.ctr_store.specs.Checkpoints.{checkpoint_need}
 use Rattle.ctr_exec.specs.ctr_session_world.World.{InWorld}
 use Rattle.ctr_exec.proofs.ctr_session_world.Resting.{world_rests}

@@ -1,8 +1,8 @@
 use Rattle.std.specs.Prelude.{false}
-use Rattle.ctr_record_effects.specs.States.{pages_in}
-use Rattle.ctr_walk.specs.Damage.{damage_told}
-use Rattle.ctr_pvs.specs.Slots.{SlotSaidAt}
-use Rattle.ctr_pvs.specs.declared.slot.LentSlot.{LentSlot}
+use Rattle.ctr_extend.specs.record_effects_States.{pages_in}
+use Rattle.ctr_extend.specs.walk_Damage.{damage_told}
+use Rattle.ctr_extend.specs.pvs_Slots.{SlotSaidAt}
+use Rattle.ctr_extend.specs.pvs_LentSlot.{LentSlot}
 use Rattle.ctr_write.proofs.Reading.{reads_fault}
 use Rattle.ctr_write.proofs.Refusing.{by_disk, fault_by_disk, slot_undamaged}
 use Rattle.ctr_write.proofs.copying.read_row.Goals as goal

@@ -1,8 +1,8 @@
 use Rattle.std.proofs.Common.{ℕ, List, length, sym, ◌∙◌, ap}
 use Rattle.std.proofs.lemmas.Bool.{false≢true}
-use Rattle.ctr_page_turns.specs.Turns.{Reads}
-use Rattle.ctr_record_effects.specs.States.{area_in}
-use Rattle.ctr_passed.specs.Laid.{width_in}
+use Rattle.ctr_extend.specs.page_turns_Turns.{Reads}
+use Rattle.ctr_extend.specs.record_effects_States.{area_in}
+use Rattle.ctr_extend.specs.passed_Laid.{width_in}
 use Rattle.ctr_write.proofs.Narrow.{table_narrow}
 use Rattle.ctr_write.proofs.Refusing.{entry_has_place}
 use Rattle.ctr_write.proofs.keeping.keep_off.Goals as goal

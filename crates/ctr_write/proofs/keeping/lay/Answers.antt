@@ -3,16 +3,16 @@ use Rattle.ctr_types.specs.declared.value.Column.{Column}
 use Rattle.ctr_area.specs.Areas.{Older}
 use Rattle.ctr_meta.specs.Tables.{Tables}
 use Rattle.ctr_area.specs.Reading.{older_said}
-use Rattle.ctr_record_laws.specs.Owed.{older_copy}
-use Rattle.ctr_record_effects.specs.States.{area_in}
-use Rattle.ctr_actions.specs.Sites.{site_of}
-use Rattle.ctr_actions.specs.Actions.{Keeps, Owes, site_after}
-use Rattle.ctr_actions.specs.Facts.{HasSlot, HasCopy}
+use Rattle.ctr_extend.specs.record_laws_Owed.{older_copy}
+use Rattle.ctr_extend.specs.record_effects_States.{area_in}
+use Rattle.ctr_extend.specs.actions_Sites.{site_of}
+use Rattle.ctr_extend.specs.actions_Actions.{Keeps, Owes, site_after}
+use Rattle.ctr_extend.specs.actions_Facts.{HasSlot, HasCopy}
 use Rattle.ctr_page.specs.Places.{kept_size}
 use Rattle.ctr_page.specs.Making.{kept_bytes}
-use Rattle.ctr_record_effects.specs.Changing.{laid_on_place}
-use Rattle.ctr_pvs.specs.Writing.{keep_record, entry_width}
-use Rattle.ctr_page_turns.specs.Turns.{LogsARecord}
+use Rattle.ctr_extend.specs.record_effects_Changing.{laid_on_place}
+use Rattle.ctr_extend.specs.pvs_Writing.{keep_record, entry_width}
+use Rattle.ctr_extend.specs.page_turns_Turns.{LogsARecord}
 use Rattle.ctr_write.specs.declared.stages.Stage.TheVariants.{Kept}
 use Rattle.ctr_write.specs.declared.stages.Written.TheVariants.{On}
 use Rattle.ctr_write.proofs.Steps.{moved, drawn_of}

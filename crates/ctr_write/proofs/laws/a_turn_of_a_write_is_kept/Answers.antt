@@ -3,14 +3,14 @@ use Rattle.std.proofs.lemmas.List.{append-nil}
 use Rattle.ctr_model.specs.Texts.{answers}
 use Rattle.ctr_area.specs.Areas.{Title, Slot}
 use Rattle.ctr_area.specs.Sound.{IsAmong}
-use Rattle.ctr_heap.specs.Ways.{IsHeadOf}
-use Rattle.ctr_record_effects.specs.States.{area_in}
-use Rattle.ctr_record_laws.specs.Owed.{older_copy}
-use Rattle.ctr_actions.specs.Sites.{Site, site_of}
-use Rattle.ctr_actions.specs.Actions.{Keeps, site_after}
-use Rattle.ctr_actions.specs.Facts.{Fact, IsOpen, HasTable, HasBlank, HasNoPageBut, HasSlot, HasCopy, HoldsFact}
-use Rattle.ctr_kept.specs.Turns.{KeepsRun, carrying}
-use Rattle.ctr_kept.proofs.Tables.{among_last, by_parts, no_blank, titles_held, carries_more, uses_more}
+use Rattle.ctr_extend.specs.heap_Ways.{IsHeadOf}
+use Rattle.ctr_extend.specs.record_effects_States.{area_in}
+use Rattle.ctr_extend.specs.record_laws_Owed.{older_copy}
+use Rattle.ctr_extend.specs.actions_Sites.{Site, site_of}
+use Rattle.ctr_extend.specs.actions_Actions.{Keeps, site_after}
+use Rattle.ctr_extend.specs.actions_Facts.{Fact, IsOpen, HasTable, HasBlank, HasNoPageBut, HasSlot, HasCopy, HoldsFact}
+use Rattle.ctr_extend.specs.kept_Turns.{KeepsRun, carrying}
+use Rattle.ctr_extend.proofs.kept_Tables.{among_last, by_parts, no_blank, titles_held, carries_more, uses_more}
 use Rattle.ctr_extend.proofs.Carrying.{live_state}
 use Rattle.ctr_write.specs.declared.stages.Stage.{Stage}
 use Rattle.ctr_write.specs.Carrying.{AreOfStage, facts_looking, facts_kept}

@@ -4,11 +4,11 @@ use Rattle.std.specs.Prelude.{IfOk, IfErr}
 use Rattle.std.proofs.lemmas.Int.{to_z-of_z}
 use Rattle.ctr_disk.specs.declared.fault.StoreFault.TheVariants.{Fault}
 use Rattle.ctr_page.specs.Places.{bucket_of}
-use Rattle.ctr_passed.specs.Laid.{width_in}
-use Rattle.ctr_record_laws.specs.Owed.{FirstVersion, IsRoomFor}
-use Rattle.ctr_record_effects.specs.States.{area_in}
+use Rattle.ctr_extend.specs.passed_Laid.{width_in}
+use Rattle.ctr_extend.specs.record_laws_Owed.{FirstVersion, IsRoomFor}
+use Rattle.ctr_extend.specs.record_effects_States.{area_in}
 use Rattle.ctr_write.specs.Laying.{Wish, MayLay, LaysHead}
-use Rattle.ctr_page_turns.specs.Turns.{Reads}
+use Rattle.ctr_extend.specs.page_turns_Turns.{Reads}
 use Rattle.ctr_write.proofs.Narrow.{table_narrow}
 use Rattle.ctr_write.proofs.Refusing.{slot_has_place}
 use Rattle.ctr_write.proofs.laying.lay_first.Goals as goal

@@ -4,17 +4,17 @@ use Rattle.ctr_types.specs.declared.value.Column.{Column}
 use Rattle.ctr_meta.specs.Tables.{Tables}
 use Rattle.ctr_area.specs.Reading.{slot_said}
 use Rattle.ctr_page.specs.Places.{bucket_of, slot_size}
-use Rattle.ctr_record_laws.specs.Owed.{FirstVersion, written_slot, IsRoomFor}
+use Rattle.ctr_extend.specs.record_laws_Owed.{FirstVersion, written_slot, IsRoomFor}
 use Rattle.ctr_page.specs.declared.rows.Version.{Version}
 use Rattle.ctr_page.specs.Making.{IsVersion, slot_bytes}
-use Rattle.ctr_record_effects.specs.States.{area_in}
-use Rattle.ctr_actions.specs.Sites.{site_of}
-use Rattle.ctr_actions.specs.Actions.{Writes, Owes}
+use Rattle.ctr_extend.specs.record_effects_States.{area_in}
+use Rattle.ctr_extend.specs.actions_Sites.{site_of}
+use Rattle.ctr_extend.specs.actions_Actions.{Writes, Owes}
 use Rattle.ctr_rec.specs.declared.record.Record.TheVariants.{Row}
-use Rattle.ctr_record_effects.specs.Changing.{laid_on_place}
-use Rattle.ctr_walk.specs.OneRecord.{WhyNotLogged}
-use Rattle.ctr_heap.specs.Writing.{slot_width, row_record, LaysMove}
-use Rattle.ctr_page_turns.specs.Turns.{LogsARecord}
+use Rattle.ctr_extend.specs.record_effects_Changing.{laid_on_place}
+use Rattle.ctr_extend.specs.walk_OneRecord.{WhyNotLogged}
+use Rattle.ctr_extend.specs.heap_Writing.{slot_width, row_record, LaysMove}
+use Rattle.ctr_extend.specs.page_turns_Turns.{LogsARecord}
 use Rattle.ctr_write.specs.declared.stages.Written.TheVariants.{Done}
 use Rattle.ctr_write.specs.Laying.{Wish, MayLay, LaysHead, move_of}
 use Rattle.ctr_write.proofs.Steps.{loses_none, slot_there}

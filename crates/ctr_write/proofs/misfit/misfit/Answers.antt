@@ -1,5 +1,5 @@
 use Rattle.std.proofs.Common.{Err}
-use Rattle.ctr_walk.proofs.Joins.{answers_ok}
+use Rattle.ctr_extend.proofs.walk_Joins.{answers_ok}
 use Rattle.ctr_write.proofs.Steps.{none_ok}
 use Rattle.ctr_write.proofs.misfit.misfit.Goals as goal
 

@@ -2,17 +2,17 @@ use Rattle.std.proofs.Common.{◌≡◌, ◌∙◌, ℤ, w64, to_z, of_z, Err, r
 use Rattle.std.specs.Prelude.{IfOk, IfErr}
 use Rattle.std.proofs.lemmas.Int.{to_z-of_z}
 use Rattle.ctr_disk.specs.declared.fault.StoreFault.TheVariants.{Fault}
-use Rattle.ctr_heap.specs.declared.slots.SlotSought.TheVariants as sought
-use Rattle.ctr_heap.specs.Finding.{EndsBucket}
-use Rattle.ctr_record_effects.specs.States.{pages_in}
-use Rattle.ctr_walk.specs.Damage.{damage_told}
+use Rattle.ctr_extend.specs.heap_SlotSought_TheVariants as sought
+use Rattle.ctr_extend.specs.heap_Finding.{EndsBucket}
+use Rattle.ctr_extend.specs.record_effects_States.{pages_in}
+use Rattle.ctr_extend.specs.walk_Damage.{damage_told}
 use Rattle.ctr_meta.specs.Kept.{TablesKept}
 use Rattle.ctr_page.specs.declared.checks.Chain.TheVariants.{Rows}
 use Rattle.ctr_page.specs.Places.{bucket_of}
 use Rattle.ctr_redo.specs.States.{State}
-use Rattle.ctr_record_effects.specs.States.{area_in}
-use Rattle.ctr_record_laws.specs.Owed.{FirstVersion, IsRoomFor}
-use Rattle.ctr_walk.proofs.Joins.{answers_ok}
+use Rattle.ctr_extend.specs.record_effects_States.{area_in}
+use Rattle.ctr_extend.specs.record_laws_Owed.{FirstVersion, IsRoomFor}
+use Rattle.ctr_extend.proofs.walk_Joins.{answers_ok}
 use Rattle.ctr_extend.specs.declared.ways.OnWay.TheVariants.{Wanted}
 use Rattle.ctr_extend.specs.Steps.{MayExtend}
 use Rattle.ctr_write.specs.declared.stages.Written.TheVariants.{Done}

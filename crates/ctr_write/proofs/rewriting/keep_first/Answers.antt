@@ -1,13 +1,13 @@
 use Rattle.std.proofs.Common.{◌≡◌, Err, refl, subst}
 use Rattle.std.specs.Prelude.{IfOk, IfErr}
 use Rattle.ctr_disk.specs.declared.fault.StoreFault.TheVariants.{Fault}
-use Rattle.ctr_pvs.specs.Along.{EndsVersions}
-use Rattle.ctr_record_effects.specs.States.{pages_in}
-use Rattle.ctr_walk.specs.Damage.{damage_told}
+use Rattle.ctr_extend.specs.pvs_Along.{EndsVersions}
+use Rattle.ctr_extend.specs.record_effects_States.{pages_in}
+use Rattle.ctr_extend.specs.walk_Damage.{damage_told}
 use Rattle.ctr_meta.specs.Kept.{TablesKept}
 use Rattle.ctr_page.specs.declared.checks.Chain.TheVariants.{Versions}
 use Rattle.ctr_redo.specs.States.{State}
-use Rattle.ctr_walk.proofs.Joins.{answers_ok}
+use Rattle.ctr_extend.proofs.walk_Joins.{answers_ok}
 use Rattle.ctr_extend.specs.declared.ways.OnWay.TheVariants.{Wanted}
 use Rattle.ctr_extend.specs.Steps.{MayExtend}
 use Rattle.ctr_write.specs.declared.stages.Stage.TheVariants.{Kept}

@@ -3,12 +3,12 @@ use Rattle.std.specs.Prelude.{IfOk, IfErr, IfSome}
 use Rattle.ctr_disk.specs.declared.fault.StoreFault.TheVariants.{Fault}
 use Rattle.ctr_area.specs.Images.{is_committed_in}
 use Rattle.ctr_area.specs.Reading.{older_said}
-use Rattle.ctr_record_laws.specs.Owed.{older_copy}
-use Rattle.ctr_record_effects.specs.States.{area_in}
-use Rattle.ctr_passed.specs.Laid.{width_in}
+use Rattle.ctr_extend.specs.record_laws_Owed.{older_copy}
+use Rattle.ctr_extend.specs.record_effects_States.{area_in}
+use Rattle.ctr_extend.specs.passed_Laid.{width_in}
 use Rattle.ctr_page.specs.declared.rows.VersionEntry.{VersionEntry}
 use Rattle.std.specs.Option.{option_map}
-use Rattle.ctr_heap.specs.Ways.{IsWay, kept_version, writing_by}
+use Rattle.ctr_extend.specs.heap_Ways.{IsWay, kept_version, writing_by}
 use Rattle.ctr_area.specs.Areas.{nowhere}
 use Rattle.ctr_write.specs.declared.stages.Written.TheVariants.{Done}
 use Rattle.ctr_page.specs.declared.rows.Place.{Place}

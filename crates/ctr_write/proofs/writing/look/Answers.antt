@@ -1,16 +1,16 @@
 use Rattle.std.proofs.Common.{◌≡◌, ℤ, w64, to_z, of_z, Err, refl, subst}
 use Rattle.std.specs.Prelude.{IfOk, IfErr}
 use Rattle.ctr_disk.specs.declared.fault.StoreFault.TheVariants.{Fault}
-use Rattle.ctr_record_effects.specs.States.{pages_in}
-use Rattle.ctr_walk.specs.Damage.{damage_told}
-use Rattle.ctr_heap.specs.declared.slots.SlotSought.TheVariants as sought
+use Rattle.ctr_extend.specs.record_effects_States.{pages_in}
+use Rattle.ctr_extend.specs.walk_Damage.{damage_told}
+use Rattle.ctr_extend.specs.heap_SlotSought_TheVariants as sought
 use Rattle.ctr_page.specs.Places.{bucket_of}
-use Rattle.ctr_heap.specs.Finding.{EndsBucket}
+use Rattle.ctr_extend.specs.heap_Finding.{EndsBucket}
 use Rattle.std.proofs.lemmas.Int.{to_z-of_z}
 use Rattle.ctr_meta.specs.Kept.{TablesKept}
 use Rattle.ctr_redo.specs.States.{State}
-use Rattle.ctr_record_effects.specs.States.{area_in}
-use Rattle.ctr_record_laws.specs.Owed.{IsSlotOfKey}
+use Rattle.ctr_extend.specs.record_effects_States.{area_in}
+use Rattle.ctr_extend.specs.record_laws_Owed.{IsSlotOfKey}
 use Rattle.ctr_write.specs.Stages.{LeavesItem}
 use Rattle.ctr_write.specs.Laying.{Wish}
 use Rattle.ctr_write.specs.Steps.{MayLook, MayPlace, EndsPlacing, EndsOver}

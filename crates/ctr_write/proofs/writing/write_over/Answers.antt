@@ -5,10 +5,10 @@ use Rattle.ctr_types.specs.declared.value.Column.{Column}
 use Rattle.ctr_page.specs.declared.rows.RowSlot.{RowSlot}
 use Rattle.ctr_area.specs.Reading.{slot_said, columns_on}
 use Rattle.ctr_redo.specs.States.{State}
-use Rattle.ctr_record_effects.specs.States.{pages_in, area_in}
-use Rattle.ctr_walk.proofs.Joins.{answers_ok}
-use Rattle.ctr_page_turns.specs.Turns.{Reads}
-use Rattle.ctr_passed.specs.Logged.{IsSlotOf}
+use Rattle.ctr_extend.specs.record_effects_States.{pages_in, area_in}
+use Rattle.ctr_extend.proofs.walk_Joins.{answers_ok}
+use Rattle.ctr_extend.specs.page_turns_Turns.{Reads}
+use Rattle.ctr_extend.specs.passed_Logged.{IsSlotOf}
 use Rattle.ctr_write.specs.Laying.{Wish}
 use Rattle.ctr_write.specs.Copies.{slot_copied}
 use Rattle.ctr_write.specs.Steps.{MayWriteOver, EndsOver}

@@ -1,12 +1,12 @@
 use Rattle.std.proofs.Common.{inl, inr, refl, sym, ◌∙◌, subst}
 use Rattle.ctr_versions.proofs.Keys.{some_is}
-use Rattle.ctr_kept.specs.Turns.{state_now}
-use Rattle.ctr_stops.specs.World.{KeepsWorld}
+use Rattle.ctr_looks.specs.kept_Turns.{state_now}
+use Rattle.ctr_looks.specs.stops_World.{KeepsWorld}
 use Rattle.ctr_looks.specs.ctr_write.declared.stages.Stage.TheVariants.{Looking}
 use Rattle.ctr_looks.specs.ctr_write.declared.stages.Written.TheVariants as written
 use Rattle.ctr_looks.specs.ctr_write.Laying.{Wish}
 use Rattle.ctr_looks.specs.ctr_write.Steps.{EndsWrite}
-use Rattle.ctr_txn.specs.Held.{number_drawn}
+use Rattle.ctr_looks.specs.txn_Held.{number_drawn}
 use Rattle.ctr_looks.specs.ctr_wishes.declared.making.Prepared.TheVariants.{Refused, Lays}
 use Rattle.ctr_writing.specs.Rows.{wish_by}
 use Rattle.ctr_writing.proofs.Rowing.{carries_itself, done_comes, done_told, goes_on, idle_here, idle_refused, of_statement, refused_by, refused_full, wished, writes, went}

@@ -1,8 +1,8 @@
 use Rattle.std.proofs.Common.{refl, ◌∙◌, ap, subst}
 use Rattle.ctr_types.specs.declared.statement.Statement.TheVariants as st
 use Rattle.ctr_versions.proofs.Keys.{some_is}
-use Rattle.ctr_actions.specs.Actions.{Drops}
-use Rattle.ctr_page_turns.specs.Acts.{ActsBy}
+use Rattle.ctr_looks.specs.actions_Actions.{Drops}
+use Rattle.ctr_looks.specs.page_turns_Acts.{ActsBy}
 use Rattle.ctr_looks.specs.ctr_ddl.Tables.{IsMadeAt}
 use Rattle.ctr_looks.specs.declared.tables.TableWrite.TheVariants.{Make, Drop}
 use Rattle.ctr_writing.proofs.Tabling.{done_comes, dropped_told, drops_it, full_told, is_at, is_drop, its_number, made_told, others_of}

@@ -5,8 +5,8 @@ use Rattle.ctr_model.specs.State.{transaction_of, view}
 use Rattle.ctr_model.specs.Tape.{final}
 use Rattle.ctr_legal.proofs.Tapes.{final_append}
 use Rattle.ctr_area.specs.Sound.{IsAmong}
-use Rattle.ctr_actions.specs.Facts.{HasTable}
-use Rattle.ctr_kept.specs.Turns.{point_now, start_point}
+use Rattle.ctr_looks.specs.actions_Facts.{HasTable}
+use Rattle.ctr_looks.specs.kept_Turns.{point_now, start_point}
 use Rattle.ctr_looks.specs.ctr_wishes.Models.{IsModels}
 use Rattle.ctr_writing.specs.Rows.{CountsAt}
 use Rattle.ctr_writing.proofs.laws.what_a_write_counts_on_stays.Goals as goal

@@ -1,7 +1,7 @@
 use Rattle.std.proofs.Common.{Some, false, refl, ◌∙◌, ap}
-use Rattle.ctr_txn.specs.Held.{run_of}
-use Rattle.ctr_txn.specs.Numbered.{NumbersHeld}
-use Rattle.ctr_txn.specs.Steps.{txn_room}
+use Rattle.ctr_looks.specs.txn_Held.{run_of}
+use Rattle.ctr_looks.specs.txn_Numbered.{NumbersHeld}
+use Rattle.ctr_looks.specs.txn_Steps.{txn_room}
 use Rattle.ctr_looks.proofs.ctr_session_world.Ready.{others_set, unasked_as}
 use Rattle.ctr_writing.proofs.room.spend_room.Goals as goal
 

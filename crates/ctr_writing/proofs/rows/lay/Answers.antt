@@ -1,8 +1,8 @@
 use Rattle.std.proofs.Common.{◌<◌, ◌^◌, w64, to_z, of_z, refl, sym, ◌∙◌, ap, subst, inl, inr}
 use Rattle.std.proofs.lemmas.Int.{to_z-of_z}
-use Rattle.ctr_txn.specs.Held.{number_drawn}
-use Rattle.ctr_txn.specs.Numbered.{NumbersHeld}
-use Rattle.ctr_txn.specs.Rooms.{HasItemRoom}
+use Rattle.ctr_looks.specs.txn_Held.{number_drawn}
+use Rattle.ctr_looks.specs.txn_Numbered.{NumbersHeld}
+use Rattle.ctr_looks.specs.txn_Rooms.{HasItemRoom}
 use Rattle.ctr_looks.specs.ctr_write.Laying.{Wish}
 use Rattle.ctr_looks.specs.ctr_write.Stages.{IsCountedWrite, LeavesItem, MovesWrite, stage_items}
 use Rattle.ctr_looks.specs.ctr_write.Steps.{EndsWrite, MayTakeTurn}

@@ -1,7 +1,7 @@
 use Rattle.std.proofs.Common.{sym, ◌∙◌, ap, subst}
-use Rattle.ctr_actions.specs.Actions.{Drops}
-use Rattle.ctr_page_turns.specs.Acts.{ActsBy}
-use Rattle.ctr_txn.specs.Numbered.{NumbersHeld}
+use Rattle.ctr_looks.specs.actions_Actions.{Drops}
+use Rattle.ctr_looks.specs.page_turns_Acts.{ActsBy}
+use Rattle.ctr_looks.specs.txn_Numbered.{NumbersHeld}
 use Rattle.ctr_looks.specs.ctr_ddl.Tables.{MayDrop}
 use Rattle.ctr_looks.specs.ctr_session_world.Ready.{StandOver}
 use Rattle.ctr_looks.specs.ctr_session_world.World.{SessionsHeld}

@@ -1,5 +1,5 @@
 use Rattle.std.proofs.Common.{◌≡◌, refl, sym, ◌∙◌, ap, subst}
-use Rattle.ctr_txn.specs.Numbered.{NumbersHeld}
+use Rattle.ctr_looks.specs.txn_Numbered.{NumbersHeld}
 use Rattle.ctr_looks.specs.ctr_ddl.Tables.{IsMadeAt, MakesBy, MakingLeaves, MayMake, next_made}
 use Rattle.ctr_looks.specs.ctr_session_world.Ready.{StandOver}
 use Rattle.ctr_looks.specs.ctr_session_world.World.{SessionsHeld}

@@ -1,4 +1,4 @@
-use Rattle.ctr_pool.specs.Pages.{PageHeld}
+use Rattle.ctr_redo.specs.ctr_pool.Pages.{PageHeld}
 use Rattle.std.proofs.Common.{refl}
 use Rattle.ctr_base.specs.BaseLaws.{leaves_joined, moves_joined, puts_home}
 use Rattle.ctr_base.specs.KeptLaws.{base_kept_on}

@@ -1,7 +1,7 @@
 use Rattle.std.specs.Prelude.{IsTrue}
 use Rattle.std.proofs.Common.{◌≡◌, [], ◌∷◌, length, List, ℕ, refl, sym, ap, subst, arith}
 use Rattle.ctr_disk.specs.Image.{Image}
-use Rattle.ctr_log.specs.Kept.{next_file, KeepsPrefix}
+use Rattle.ctr_redo.specs.log_Kept.{next_file, KeepsPrefix}
 use Rattle.ctr_disk.specs.Device.{LeavesOnly, IsSettled}
 use Rattle.ctr_base.specs.declared.base.Base.{Base}
 use Rattle.ctr_base.specs.Base.{IsSoundImage, LeavesBase}

@@ -2,12 +2,12 @@ use Rattle.std.specs.Prelude.{IsTrue}
 use Rattle.std.proofs.Common.{◌≡◌, ◌∙◌, ◌-◌, ℕ, false, List, drop, refl, sym, ap, subst}
 use Rattle.ctr_disk.specs.Image.{Image}
 use Rattle.ctr_disk.specs.Device.{LeavesOnly}
-use Rattle.ctr_home.specs.declared.root.Root.{Root}
-use Rattle.ctr_home.specs.declared.block.Block.TheVariants.{Root as RootBlock}
-use Rattle.ctr_home.specs.Roots.{root_block}
-use Rattle.ctr_home.specs.Writing.{IsOldOrNewValue, IsNewValue}
-use Rattle.ctr_log.specs.Logs.{Log}
-use Rattle.ctr_rec.specs.declared.record.Record.{Record}
+use Rattle.ctr_redo.specs.home_Root.{Root}
+use Rattle.ctr_redo.specs.home_Block_TheVariants.{Root as RootBlock}
+use Rattle.ctr_redo.specs.home_Roots.{root_block}
+use Rattle.ctr_redo.specs.home_Writing.{IsOldOrNewValue, IsNewValue}
+use Rattle.ctr_redo.specs.log_Logs.{Log}
+use Rattle.ctr_redo.specs.rec_Record.{Record}
 use Rattle.ctr_redo.specs.Images.{stored_in, newer_root}
 use Rattle.ctr_redo.proofs.GrowthLaws.{pages_file, home_old}
 use Rattle.ctr_base.specs.declared.base.Base.{Base}

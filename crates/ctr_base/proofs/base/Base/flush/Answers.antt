@@ -7,8 +7,8 @@ use Rattle.ctr_redo.specs.Images.{FoldsFront}
 use Rattle.ctr_disk.specs.Image.{Image}
 use Rattle.ctr_disk.proofs.Moments.{weaker}
 use Rattle.ctr_base.specs.Base.{IsSoundImage, HasGate, LeavesBase, stored_of, waiting_of}
-use Rattle.ctr_log.specs.Logs.{IsFlushing, with_batch}
-use Rattle.ctr_log.specs.Kept.{StartsAt}
+use Rattle.ctr_redo.specs.log_Logs.{IsFlushing, with_batch}
+use Rattle.ctr_redo.specs.log_Kept.{StartsAt}
 use Rattle.ctr_redo.proofs.ImageLaws.{logs_apart}
 use Rattle.ctr_base.specs.declared.base.Base.{Base}
 use Rattle.ctr_base.specs.BaseLaws.{holds_if, holds_still, rests_leaves, stands_still, stands_flushed, homes_flushed}

@@ -3,7 +3,7 @@ use Rattle.std.proofs.Common.{◌≡◌, sym, subst}
 use Rattle.ctr_redo.specs.States.{state_of}
 use Rattle.ctr_redo.specs.Images.{FoldsGrown}
 use Rattle.ctr_base.specs.Base.{IsSoundImage, stored_of}
-use Rattle.ctr_home.specs.declared.root.Root.{Root}
+use Rattle.ctr_redo.specs.home_Root.{Root}
 use Rattle.ctr_disk.specs.Device.{LeavesOnly}
 use Rattle.ctr_base.specs.declared.base.Base.{Base}
 use Rattle.ctr_base.specs.Growth.{IsGrowing, HasGrown, GrowsOver, grown_root}

@@ -1,4 +1,4 @@
-use Rattle.ctr_pool.specs.Pages.{PageHeld}
+use Rattle.ctr_redo.specs.ctr_pool.Pages.{PageHeld}
 use Rattle.ctr_base.proofs.ReadLaws.{above_value}
 use Rattle.ctr_base.proofs.HomeLaws.{since_written}
 use Rattle.ctr_base.specs.BaseLaws.{home_leaves, home_moves, home_quiet, is_home, stands_written}

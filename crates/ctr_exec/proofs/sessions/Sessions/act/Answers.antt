@@ -5,8 +5,8 @@ use Rattle.ctr_types.specs.declared.statement.Line.{Line}
 use Rattle.ctr_types.specs.declared.statement.Statement.{Statement}
 use Rattle.ctr_types.specs.declared.statement.Statement.TheVariants as st
 use Rattle.ctr_versions.proofs.Keys.{some_is}
-use Rattle.ctr_kept.specs.Turns.{state_now}
-use Rattle.ctr_txn.specs.Held.{IsWriting, TxnsHeld, number_drawn, txn_of}
+use Rattle.ctr_control.specs.kept_Turns.{state_now}
+use Rattle.ctr_control.specs.txn_Held.{IsWriting, TxnsHeld, number_drawn, txn_of}
 use Rattle.ctr_writing.specs.ctr_session_world.Ready.{StandOver}
 use Rattle.ctr_writing.specs.ctr_session_world.Told.{IsNextOf}
 use Rattle.ctr_writing.specs.ctr_session_world.World.{SessionsHeld}

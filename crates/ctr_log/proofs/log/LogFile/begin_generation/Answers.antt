@@ -1,14 +1,14 @@
 use Rattle.std.proofs.Common.{◌≡◌, ◌∙◌, [], ◌∷◌, ℕ, List, length, drop, ap, subst, sym, refl, arith, Err, length-take}
 use Rattle.std.proofs.lemmas.List.{drop_all}
 use Rattle.std.proofs.lemmas.Result.{err_from_is_err_and}
-use Rattle.ctr_disk.specs.Image.{content}
-use Rattle.ctr_disk.specs.Device.{LeavesOnly, IsSettled}
+use Rattle.ctr_home.specs.disk_Image.{content}
+use Rattle.ctr_home.specs.disk_Device.{LeavesOnly, IsSettled}
 use Rattle.ctr_types.specs.Faults.{CountsFault}
 use Rattle.ctr_log.specs.Logs.{Log, frames, unframed}
 use Rattle.ctr_log.specs.LogFile.{log_of}
 use Rattle.ctr_log.specs.Kept.{next_file, WritesBehind, KeepsPrefix}
 use Rattle.ctr_log.proofs.StartLemmas.{none_waits, only_head, file_is, starts_at, starts_with, goes_on_alone, number, shut_leaves, begun_leaves, begun}
-use Rattle.ctr_disk.proofs.Moments.{settled_by}
+use Rattle.ctr_home.proofs.disk_Moments.{settled_by}
 use Rattle.ctr_log.proofs.log.LogFile.begin_generation.Given.{Over}
 use Rattle.ctr_log.proofs.log.LogFile.begin_generation.Goals.{After-write_batch-written}
 use Rattle.ctr_log.proofs.log.LogFile.begin_generation.Goals as goal

@@ -1,14 +1,14 @@
 use Rattle.std.proofs.Common.{◌≡◌, inl, inr, ◌∙◌, ◌+◌, ◌-◌, ◌^◌, ◌≤◌, ◌<◌, [], ◌∷◌, ℕ, List, length, take, drop, vec_len, vec_capacity, ap, subst, sym, refl, arith, length-drop, length-take}
 use Rattle.std.proofs.lemmas.List.{drop_all}
 use Rattle.std.proofs.lemmas.Result.{err_from_is_err_and}
-use Rattle.ctr_disk.specs.Image.{content, OtherFilesStay}
-use Rattle.ctr_disk.specs.Device.{LeavesOnly, IsSettled}
+use Rattle.ctr_home.specs.disk_Image.{content, OtherFilesStay}
+use Rattle.ctr_home.specs.disk_Device.{LeavesOnly, IsSettled}
 use Rattle.ctr_log.specs.Logs.{Batches, Log, frames, unframed, buffer_size, log_end, end_behind, GoesOn, Extends, IsFlushing, with_batch}
 use Rattle.ctr_log.specs.Kept.{WritesBehind, KeepsPrefix}
 use Rattle.ctr_log.specs.LogFile.{log_of}
 use Rattle.ctr_log.proofs.LogLemmas.{length-unframed}
 use Rattle.ctr_log.proofs.FlushLemmas.{reopened, extends, goes_on, leaves, wrote_behind, none_leaves, all_leaves, all_goes_on}
-use Rattle.ctr_disk.proofs.Moments.{starts}
+use Rattle.ctr_home.proofs.disk_Moments.{starts}
 use Rattle.ctr_log.proofs.log.LogFile.flush.Given.{Over}
 use Rattle.ctr_log.proofs.log.LogFile.flush.Goals.{After-write_batch-written}
 use Rattle.ctr_log.proofs.log.LogFile.flush.Goals as goal

@@ -1,4 +1,4 @@
-use Rattle.ctr_disk.proofs.Moments.{settled_by}
+use Rattle.ctr_home.proofs.disk_Moments.{settled_by}
 use Rattle.ctr_log.proofs.GenerationLemmas.{both_leave}
 use Rattle.ctr_log.proofs.log.LogFile.start_generation.Goals as goal
 

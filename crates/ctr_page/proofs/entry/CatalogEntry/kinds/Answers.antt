@@ -1,5 +1,5 @@
 use Rattle.std.proofs.Common.{◌-◌, ◌∙◌, [], ◌∷◌, take}
-use Rattle.ctr_bytes.specs.Fields.{field}
+use Rattle.ctr_rec.specs.bytes_Fields.{field}
 use Rattle.ctr_page.proofs.Holding.{kinds_behind}
 use Rattle.ctr_page.proofs.entry.CatalogEntry.kinds.Goals as goal
 

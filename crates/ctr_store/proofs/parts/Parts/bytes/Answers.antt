@@ -1,5 +1,5 @@
 use Rattle.std.proofs.Common.{◌∙◌, sym, ap}
-use Rattle.ctr_pool.specs.Frames.{kept_or}
+use Rattle.ctr_base.specs.pool_Frames.{kept_or}
 use Rattle.ctr_base.specs.Base.{home_of}
 use Rattle.ctr_store.proofs.RecordLaws.{frame_there}
 use Rattle.ctr_store.proofs.PartsLaws.{page_is_shown}

@@ -1,5 +1,5 @@
 use Rattle.std.proofs.Common.{refl, ◌<◌, ◌∙◌, sym, ap, arith}
-use Rattle.ctr_meta.specs.Effects.{effect}
+use Rattle.ctr_base.specs.meta_Effects.{effect}
 use Rattle.ctr_rec.proofs.ReadBack.{record_read}
 use Rattle.ctr_rec.specs.Spelling.{record_bytes}
 use Rattle.ctr_store.proofs.RecordLaws.{on_page, off_page, overlay_inside, frame_there, inside_of}

@@ -1,10 +1,10 @@
 use Rattle.std.proofs.Common.{inl, inr, [], subst}
 use Rattle.ctr_disk.proofs.Moments.{read_then, weaker}
-use Rattle.ctr_home.specs.declared.block.Block.TheVariants.{Root as RootBlock}
-use Rattle.ctr_home.specs.Blocks.{value_of}
-use Rattle.ctr_home.specs.Roots.{SaysRoot}
-use Rattle.ctr_redo.specs.States.{state_of}
-use Rattle.ctr_redo.specs.Images.{stored_in, FoldsFront}
+use Rattle.ctr_base.specs.ctr_home.declared.block.Block.TheVariants.{Root as RootBlock}
+use Rattle.ctr_base.specs.ctr_home.Blocks.{value_of}
+use Rattle.ctr_base.specs.ctr_home.Roots.{SaysRoot}
+use Rattle.ctr_base.specs.redo_States.{state_of}
+use Rattle.ctr_base.specs.redo_Images.{stored_in, FoldsFront}
 use Rattle.ctr_store.specs.Opening.{disk_left, LeavesFirst}
 use Rattle.ctr_store.proofs.parts.Parts.open.Goals as goal
 

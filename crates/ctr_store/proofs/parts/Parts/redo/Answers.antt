@@ -2,23 +2,23 @@ use Rattle.std.proofs.Common.{◌≡◌, ◌≤◌, ◌∙◌, ℕ, Some, List, 
 use Rattle.std.proofs.lemmas.Option.{slice_get_within, slice_get-get_or}
 use Rattle.std.proofs.lemmas.Result.{err_from_is_err_and}
 use Rattle.ctr_disk.specs.declared.fault.StoreFault.TheVariants.{Fault}
-use Rattle.ctr_log.proofs.VisitLemmas.{ok_isnt}
+use Rattle.ctr_base.proofs.log_VisitLemmas.{ok_isnt}
 use Rattle.ctr_rec.specs.declared.record.Record.{Record}
-use Rattle.ctr_redo.specs.Images.{records_in}
+use Rattle.ctr_base.specs.redo_Images.{records_in}
 use Rattle.ctr_base.specs.Base.{stored_of}
 use Rattle.ctr_base.specs.BaseLaws.{rests_leaves, leaves_joined}
 use Rattle.ctr_base.specs.KeptLaws.{base_kept, base_kept_on}
 use Rattle.std.proofs.lemmas.List.{take_all}
-use Rattle.ctr_redo.specs.States.{next_of}
+use Rattle.ctr_base.specs.redo_States.{next_of}
 use Rattle.ctr_store.specs.PageChecks.{PagesPass}
 use Rattle.ctr_store.proofs.PageCheckLaws.{first_told}
 use Rattle.ctr_store.specs.RecordChecks.{PassesAs, tables_seen}
 use Rattle.ctr_store.specs.Redo.{IsNextRecord}
 use Rattle.std.specs.Prelude.{IsTrue}
 use Rattle.ctr_disk.specs.declared.disk.Disk.{Ghosts}
-use Rattle.ctr_log.specs.declared.visitor.Visit.{Visit}
-use Rattle.ctr_log.specs.Kept.{kept_log}
-use Rattle.ctr_log.specs.Visits.{visit_bytes}
+use Rattle.ctr_base.specs.log_Visit.{Visit}
+use Rattle.ctr_base.specs.log_Kept.{kept_log}
+use Rattle.ctr_base.specs.log_Visits.{visit_bytes}
 use Rattle.ctr_base.specs.declared.base.Base.{Base}
 use Rattle.ctr_store.proofs.SeenLaws.{next_seen, get_number, length_seen, tables_all}
 use Rattle.ctr_store.proofs.RedoLaws.{redo_starts, redo_low, redo_ends}

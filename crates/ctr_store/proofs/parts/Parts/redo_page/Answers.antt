@@ -1,8 +1,8 @@
 use Rattle.std.proofs.Common.{◌≡◌, ◌∙◌, ◌==◌, ◌≤◌, ◌<◌, ◌+◌, if◌then◌else◌, ℕ, Ok, refl, sym, ap, subst, arith}
 use Rattle.std.specs.Prelude.{IsTrue, ⊤}
 use Rattle.std.specs.Option.{option_map}
-use Rattle.ctr_pool.specs.Frames.{frame_of, after_change, page_shown, kept_or}
-use Rattle.ctr_redo.specs.States.{next_of}
+use Rattle.ctr_base.specs.pool_Frames.{frame_of, after_change, page_shown, kept_or}
+use Rattle.ctr_base.specs.redo_States.{next_of}
 use Rattle.ctr_base.specs.Base.{stored_of, home_of}
 use Rattle.ctr_store.specs.PageChecks.{PagePasses, PageFails, FindsPage}
 use Rattle.ctr_store.specs.Parts.{BringsOver}
@@ -12,7 +12,7 @@ use Rattle.ctr_disk.specs.Image.{Image}
 use Rattle.ctr_rec.specs.declared.record.Record.{Record}
 use Rattle.ctr_base.specs.declared.base.Base.{Base}
 use Rattle.ctr_base.specs.Homes.{PassesHome}
-use Rattle.ctr_home.specs.Reading.{IsFaultOr}
+use Rattle.ctr_base.specs.ctr_home.Reading.{IsFaultOr}
 use Rattle.std.proofs.lemmas.Result.{err_from_is_err_and}
 use Rattle.ctr_store.specs.declared.parts.Parts.{Parts}
 use Rattle.ctr_store.proofs.RecordLaws.{on_page, off_page, frame_there, inside_of, page_of_touch}

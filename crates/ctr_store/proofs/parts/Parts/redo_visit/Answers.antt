@@ -1,9 +1,9 @@
 use Rattle.std.proofs.Common.{◌≡◌, ◌∙◌, None, Some, sym, ap, subst}
 use Rattle.std.proofs.lemmas.Result.{err_from_is_err_and}
-use Rattle.ctr_redo.specs.States.{next_of}
+use Rattle.ctr_base.specs.redo_States.{next_of}
 use Rattle.ctr_base.specs.Base.{stored_of}
 use Rattle.ctr_store.specs.PageChecks.{PagePasses}
-use Rattle.ctr_redo.specs.Overlaid.{overlay_of}
+use Rattle.ctr_base.specs.redo_Overlaid.{overlay_of}
 use Rattle.ctr_base.specs.BaseLaws.{rests_leaves}
 use Rattle.ctr_store.proofs.RecordLaws.{off_all, same_record}
 use Rattle.ctr_store.proofs.RedoLaws.{redo_off}

@@ -1,7 +1,7 @@
 use Rattle.std.proofs.Common.{◌≡◌, ◌∙◌, ◌+◌, ◌^◌, ◌≤◌, List, [], ◌∷◌, length, length-append, sym, ap, subst, arith}
-use Rattle.ctr_log.specs.declared.visitor.Visit.{Visit}
-use Rattle.ctr_meta.specs.Effects.{effect}
-use Rattle.ctr_meta.specs.Needs.{needs}
+use Rattle.ctr_base.specs.log_Visit.{Visit}
+use Rattle.ctr_base.specs.meta_Effects.{effect}
+use Rattle.ctr_base.specs.meta_Needs.{needs}
 use Rattle.ctr_store.specs.RecordChecks.{SeenLog, PassesAs, AllPass, tables_seen}
 use Rattle.ctr_store.specs.Numbers.{NumbersWithin}
 use Rattle.ctr_store.proofs.NumberLaws.{within_seen, numbers_fit}

@@ -1,10 +1,10 @@
 use Rattle.std.proofs.Common.{◌≡◌, ◌∙◌, ◌++◌, [], ◌∷◌, List, inr, sym, ap, subst}
 use Rattle.std.specs.Prelude.{IsTrue}
 use Rattle.std.proofs.lemmas.Result.{on_ok_weaker}
-use Rattle.ctr_log.specs.declared.visitor.Visit.{Visit}
-use Rattle.ctr_log.specs.Visits.{visit_of}
-use Rattle.ctr_log.specs.declared.reading.ReadError.TheVariants.{Store}
-use Rattle.ctr_meta.specs.Tables.{Tables}
+use Rattle.ctr_base.specs.log_Visit.{Visit}
+use Rattle.ctr_base.specs.log_Visits.{visit_of}
+use Rattle.ctr_base.specs.log_ReadError.TheVariants.{Store}
+use Rattle.ctr_base.specs.meta_Tables.{Tables}
 use Rattle.ctr_store.specs.RecordChecks.{SeenLog, FailsAs, AllPass, CountsPages, tables_seen}
 use Rattle.ctr_store.specs.RecordChecks.{PassesAs}
 use Rattle.ctr_store.proofs.SeenLaws.{passed_more}

@@ -1,8 +1,8 @@
 use Rattle.std.proofs.Common.{◌≡◌, ◌∙◌, ◌+◌, ◌-◌, ◌^◌, ◌<◌, ℕ, List, length, Bool, false, sym, ap, subst}
 use Rattle.std.specs.Prelude.{IsTrue}
 use Rattle.ctr_base.specs.Base.{IsSoundImage}
-use Rattle.ctr_home.specs.declared.root.Root.{Root}
-use Rattle.ctr_log.specs.Logs.{Log}
+use Rattle.ctr_base.specs.ctr_home.declared.root.Root.{Root}
+use Rattle.ctr_base.specs.log_Logs.{Log}
 use Rattle.ctr_store.specs.declared.parts.Parts.{Parts}
 use Rattle.ctr_store.specs.Checkpoints.{SpellsTables}
 use Rattle.ctr_store.specs.Parts.{MayCount}

@@ -1,6 +1,6 @@
 use Rattle.std.proofs.Common.{◌∙◌, ◌+◌, length, sym, subst}
 use Rattle.ctr_base.specs.declared.base.Base.{Base}
-use Rattle.ctr_meta.specs.Kept.{TablesKept}
+use Rattle.ctr_base.specs.meta_Kept.{TablesKept}
 use Rattle.ctr_store.specs.Numbers.{NumbersLow}
 use Rattle.ctr_store.specs.Parts.{HasBuffer}
 use Rattle.ctr_store.specs.Store.{View, GrowsByExtent}

@@ -1,5 +1,5 @@
 use Rattle.std.proofs.Common.{◌≡◌, ◌∙◌, false, refl, ap}
-use Rattle.ctr_redo.specs.States.{State, page_at}
+use Rattle.ctr_base.specs.redo_States.{State, page_at}
 use Rattle.ctr_store.specs.Store.{View}
 use Rattle.ctr_store.proofs.PartsLaws.{fold_low, fold_moved}
 use Rattle.ctr_store.proofs.StoreLaws.{page_fails, page_lends}

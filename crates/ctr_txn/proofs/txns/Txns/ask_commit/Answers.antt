@@ -2,8 +2,8 @@ use Rattle.std.proofs.Common.{ℕ, Ok, Err, Some, refl, sym, ◌∙◌, ap, subs
 use Rattle.ctr_meta.specs.Tables.{Tables}
 use Rattle.ctr_rec.specs.declared.record.Record.TheVariants.{Commit}
 use Rattle.ctr_walk.specs.OneRecord.{LogsOne}
-use Rattle.ctr_actions.specs.Sites.{Site, site_of}
-use Rattle.ctr_actions.specs.Actions.{Commits, site_after}
+use Rattle.ctr_paged.specs.actions_Sites.{Site, site_of}
+use Rattle.ctr_paged.specs.actions_Actions.{Commits, site_after}
 use Rattle.ctr_paged.specs.Shown.{IsShown}
 use Rattle.ctr_txn.specs.declared.txn.Asked.{Asked}
 use Rattle.ctr_txn.specs.Held.{scene_with, me_in, txn_of}

@@ -4,8 +4,8 @@ use Rattle.ctr_meta.specs.Kept.{TablesKept}
 use Rattle.ctr_model.specs.State.{with_transaction}
 use Rattle.ctr_rec.specs.declared.record.Record.TheVariants.{Begin}
 use Rattle.ctr_walk.specs.OneRecord.{LogsOne}
-use Rattle.ctr_actions.specs.Sites.{Site, site_of}
-use Rattle.ctr_actions.specs.Actions.{Begins, site_after}
+use Rattle.ctr_paged.specs.actions_Sites.{Site, site_of}
+use Rattle.ctr_paged.specs.actions_Actions.{Begins, site_after}
 use Rattle.ctr_paged.specs.Moving.{held_as}
 use Rattle.ctr_paged.specs.Shown.{IsShown}
 use Rattle.ctr_txn.specs.Held.{scene_with, run_of, txn_of}

@@ -2,8 +2,8 @@ use Rattle.std.proofs.Common.{Ok, Err, None, arith, inl, refl, sym, ◌∙◌, a
 use Rattle.ctr_model.specs.State.{without_transaction}
 use Rattle.ctr_rec.specs.declared.record.Record.TheVariants.{Abort}
 use Rattle.ctr_walk.specs.OneRecord.{LogsOne}
-use Rattle.ctr_actions.specs.Sites.{Site, site_of}
-use Rattle.ctr_actions.specs.Actions.{Aborts, site_after}
+use Rattle.ctr_paged.specs.actions_Sites.{Site, site_of}
+use Rattle.ctr_paged.specs.actions_Actions.{Aborts, site_after}
 use Rattle.ctr_paged.specs.Shown.{IsShown}
 use Rattle.ctr_txn.specs.Held.{scene_with, me_in}
 use Rattle.ctr_txn.proofs.Runs.{room_behind}

@@ -1,7 +1,7 @@
 use Rattle.std.proofs.Common.{◌⊎◌, sym, ◌∙◌, subst}
 use Rattle.ctr_disk.specs.Device.{LeavesOnly}
 use Rattle.ctr_record_effects.specs.Standing.{IsDatabaseState, StandsForDatabase}
-use Rattle.ctr_stops.proofs.Opened.{now_is}
+use Rattle.ctr_undo.proofs.stops_Opened.{now_is}
 use Rattle.ctr_world.proofs.Keeping.{sound_of}
 use Rattle.ctr_world.proofs.Refused.{front_of, opening_leaves, reading_leaves, told_as, told_behind}
 use Rattle.ctr_world.proofs.Started.{kept_begun, stands_on}
