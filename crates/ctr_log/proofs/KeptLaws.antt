@@ -7,10 +7,10 @@ use Rattle.ctr_home.specs.disk_Image.{Image, content, OtherFilesStay}
 use Rattle.ctr_home.specs.disk_Disk.{Ghosts}
 use Rattle.ctr_home.specs.disk_Device.{LeavesOnly}
 use Rattle.ctr_home.specs.disk_TornLaws.{torn_nothing}
-use Rattle.ctr_home.proofs.disk_Moments.{weaker}
-use Rattle.ctr_home.proofs.disk_Torn.{same_but}
+use Rattle.ctr_disk.proofs.Moments.{weaker}
+use Rattle.ctr_disk.proofs.Torn.{same_but}
 use Rattle.ctr_home.specs.bytes_Fields.{field}
-use Rattle.ctr_home.proofs.bytes_FieldLaws.{field-drop}
+use Rattle.ctr_bytes.proofs.FieldLaws.{field-drop}
 use Rattle.ctr_log.specs.Logs.{Batches, frames, batch, batches, records, AreBatches, HasBatches, HasLog, Log, GoesOn, unframed, IsBeforeOrAfter, IsAfter, with_batch}
 use Rattle.ctr_log.specs.Reading.{log_file}
 use Rattle.ctr_log.specs.Kept.{logged, log_in, kept_in, kept_log, other_file, IsDropped, AreShort, HoldsOne, HoldsTwo, HoldsLog, WritesBy, KeepsPrefix, GoesOnWith, StaysDropped}

@@ -6,9 +6,9 @@ use Rattle.ctr_types.specs.declared.file.File.{File}
 use Rattle.ctr_home.specs.disk_Image.{Image, content, write_of, written, Torn, TornImage, OtherFilesStay}
 use Rattle.ctr_home.specs.bytes_Fields.{spelled, field}
 use Rattle.ctr_log.specs.Logs.{frame, frames, batch, batches, records, IsBatch, AreBatches, unframed, Extends, IsBeforeOrAfter, IsAfter, HasBatches}
-use Rattle.ctr_home.proofs.bytes_FieldLaws.{length-spelled, field_at}
+use Rattle.ctr_bytes.proofs.FieldLaws.{length-spelled, field_at}
 use Rattle.ctr_home.specs.disk_TornLaws.{torn_whole}
-use Rattle.ctr_home.proofs.disk_Torn.{torn_behind, torn_byte, written_behind, written_byte, same_but, content_written}
+use Rattle.ctr_disk.proofs.Torn.{torn_behind, torn_byte, written_behind, written_byte, same_but, content_written}
 
 pub length-frame : (r : List ℕ) → length (frame r) ≡ 8 + length r
 length-frame r = omega (arith, length-append (spelled 8 (length r)) r, length-spelled 8 (length r))
