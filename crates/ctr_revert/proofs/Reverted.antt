@@ -24,7 +24,7 @@ use Rattle.ctr_pvs.specs.Reading.{row_check_at}
 use Rattle.ctr_pvs.proofs.Told.{chain_ok, header_here}
 use Rattle.ctr_revert.specs.declared.slots.SlotLaid.{SlotLaid}
 use Rattle.ctr_revert.specs.Reverting.{without_head, KeepsKey, slot_reverted, lost_record, behind_check, row_slot_at, bytes_laid, PassesRow, LiesThere}
-use Rattle.ctr_revert.proofs.Row.{row_reverted, row_place}
+use Rattle.ctr_revert.proofs.Headless.{row_reverted, row_place}
 
 -- the law of a record that lays a slot
 abbrev pub LaysSlots : Type 0

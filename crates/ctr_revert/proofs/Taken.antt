@@ -9,7 +9,7 @@ use Rattle.ctr_pvs.specs.area_Chains.{older_bound, Leads}
 use Rattle.ctr_pvs.specs.area_Sound.{IsUsedSlot, IsKeptFor, IsSoundArea}
 use Rattle.ctr_pvs.specs.record_laws_Owed.{Reverting, ToPrevious, ToKept, ToNothing, reverted_slot, FitsReverting}
 use Rattle.ctr_revert.specs.Reverting.{behind_head, without_head, KeepsKey}
-use Rattle.ctr_revert.proofs.Row.{nothing_at}
+use Rattle.ctr_revert.proofs.Headless.{nothing_at}
 
 bound_suc : (n : ℕ) × (older_bound ≡ suc n)
 unfolding older_bound

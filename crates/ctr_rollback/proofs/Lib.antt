@@ -1,7 +1,7 @@
 pub mod Records
 pub mod Others
 pub mod Worlds
-pub mod Txns
+pub mod Running
 pub use Rattle.ctr_txn.proofs as ctr_txn
 pub use Rattle.ctr_stops.proofs.kept_Undo as kept_Undo
 pub use Rattle.ctr_stops.proofs.Blanks as stops_Blanks

@@ -15,6 +15,8 @@ mod eight;
 #[cfg(test)]
 mod fixed_disk;
 #[cfg(test)]
+mod generation;
+#[cfg(test)]
 mod hoard;
 #[cfg(test)]
 mod marks;

@@ -1,9 +1,9 @@
 pub mod Looking
 pub mod Reading
 pub mod Answered
-pub mod Changed
+pub mod Changers
 pub mod Scanning
-pub mod Newest
+pub mod LastChange
 pub use Rattle.ctr_chain.proofs.ctr_pvs.Told as pvs_Told
 pub use Rattle.ctr_chain.proofs.passed_Pagewise as passed_Pagewise
 pub use Rattle.ctr_catalog.proofs.Searched as catalog_Searched

@@ -30,7 +30,7 @@ use Rattle.ctr_revert.specs.Reverting.{without_head, KeepsKey, lost_record, byte
 use Rattle.ctr_revert.specs.Taking.{slot_of, TakesHead}
 use Rattle.ctr_revert.proofs.Logged.{reverts, ends_laid}
 use Rattle.ctr_revert.proofs.Reverted.{row_area}
-use Rattle.ctr_revert.proofs.Row.{head_said}
+use Rattle.ctr_revert.proofs.Headless.{head_said}
 use Rattle.ctr_revert.proofs.Taken.{keeps_key, same_slot}
 use Rattle.ctr_revert.proofs.revert.revert_row.Given.{Over}
 use Rattle.ctr_revert.proofs.revert.revert_row.Goals.{After-lay}

@@ -15,7 +15,7 @@ use Rattle.ctr_pvs.specs.Table.{owner_of, TableSaid}
 use Rattle.ctr_pvs.specs.Reading.{row_on_check}
 use Rattle.ctr_pvs.proofs.Told.{no_table_first, by_table}
 use Rattle.ctr_revert.specs.Reverting.{row_slot_at, behind_check, SlotSaidFrom, BytesSaid, EndsRow}
-use Rattle.ctr_revert.proofs.Row.{ends_row, row_passed}
+use Rattle.ctr_revert.proofs.Headless.{ends_row, row_passed}
 use Rattle.ctr_revert.proofs.revert.search_row.Given.{Over}
 use Rattle.ctr_revert.proofs.revert.search_row.Goals.{After-bytes_behind}
 use Rattle.ctr_revert.proofs.revert.search_row.Goals as goal

@@ -11,7 +11,7 @@ use Rattle.ctr_page_turns.specs.actions_Actions.{item_count}
 use Rattle.ctr_catalog.specs.Writing.{undo_record}
 use Rattle.ctr_txn.specs.Held.{number_drawn}
 use Rattle.ctr_rollback.proofs.Records.{undo_next, undo_leaves_room, none_counted, one_done, one_failed}
-use Rattle.ctr_rollback.proofs.Txns.{writing_still}
+use Rattle.ctr_rollback.proofs.Running.{writing_still}
 use Rattle.ctr_rollback.proofs.rolling.turn.Goals as goal
 
 -- ---- the mark

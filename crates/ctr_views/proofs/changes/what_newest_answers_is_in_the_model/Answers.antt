@@ -7,7 +7,7 @@ use Rattle.ctr_paged.proofs.record_laws_Slots.{slot_wasnt}
 use Rattle.ctr_catalog.proofs.names_Fates.{agrees}
 use Rattle.ctr_paged.specs.Paged.{xids_of}
 use Rattle.ctr_views.proofs.Looking.{of_tables, session_shown}
-use Rattle.ctr_views.proofs.Changed.{rows_told, rows_refused}
+use Rattle.ctr_views.proofs.Changers.{rows_told, rows_refused}
 use Rattle.ctr_views.proofs.changes.what_newest_answers_is_in_the_model.Goals as goal
 
 pub returns-clause-number : goal.returns-clause-number

@@ -1,6 +1,6 @@
 use Rattle.ctr_views.proofs.Answered.{schema_settled}
 use Rattle.ctr_views.proofs.Looking.{session_shown}
-use Rattle.ctr_views.proofs.Newest.{newest_is_told, told_at_most}
+use Rattle.ctr_views.proofs.LastChange.{newest_is_told, told_at_most}
 use Rattle.ctr_views.proofs.names.the_newest_change_of_a_name_is_told.Goals as goal
 
 pub returns-clause-newest : goal.returns-clause-newest

@@ -2,7 +2,7 @@ use Rattle.std.proofs.Common.{◌∙◌, ap}
 use Rattle.std.specs.Prelude.{is_some}
 use Rattle.ctr_views.proofs.Answered.{schema_settled, schema_unchanged}
 use Rattle.ctr_views.proofs.Looking.{session_shown}
-use Rattle.ctr_views.proofs.Newest.{none_is_told, told_at_most}
+use Rattle.ctr_views.proofs.LastChange.{none_is_told, told_at_most}
 use Rattle.ctr_views.proofs.names.what_changed_answers_is_in_the_model.Goals as goal
 
 pub returns-clause-changed : goal.returns-clause-changed
