@@ -1,5 +1,5 @@
 // The tables, and what each record does to them.
-ghost use Rattle.std.specs.Prelude.{◌≡◌, ◌≤◌, ◌<◌, ◌+◌, ◌-◌, ◌*◌, ◌^◌, ◌∷◌, ◌++◌, ℕ, List, [], IsTrue, ◌↔◌, true, None, Ok, filter, length, map, IfOk, IfSome, OnOk, ⊤};
+ghost use Rattle.std.specs.Prelude.{◌≡◌, ◌≤◌, ◌<◌, ◌+◌, ◌-◌, ◌*◌, ◌^◌, ◌∷◌, ◌++◌, ℕ, List, [], IsTrue, ◌↔◌, true, None, Ok, filter, length, map, slice_get, IfOk, IfSome, OnOk, ⊤};
 ghost use Rattle.std.specs.List.{AllByRecursion};
 ghost use Rattle.ctr_rec.specs.declared.record.SlogItem.{SlogItem as Item};
 ghost use Rattle.ctr_rec.specs.Members.{opens_listed, aborted_listed, items_listed, HasMembers, ItemFits};
@@ -89,6 +89,14 @@ impl Meta {
         ensures { IfOk result (λ v. v.items ≡ self.now.tables.aborted) }
     {
         self.aborted.pairs(alloc)
+    }
+
+    /// One of those in the aborted transaction map with its heads, by its place in the order of abort, from 0; none behind the last. It takes
+    /// no memory.
+    pub fn aborted_at(&self, place: usize) -> Option<(Xid, u64)>
+        ensures { result ≡ slice_get self.now.tables.aborted place }
+    {
+        self.aborted.at(place)
     }
 
     /// How a transaction stands, from 1 on.

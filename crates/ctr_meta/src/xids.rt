@@ -1,5 +1,5 @@
 // A list of transactions with their heads, in the order in which they were added.
-ghost use Rattle.std.specs.Prelude.{◌≡◌, ◌≤◌, ◌<◌, ◌+◌, ◌^◌, ◌++◌, [], ◌∷◌, None, length, map, ℕ, is_some, if◌then◌else◌, IfOk, OnOk};
+ghost use Rattle.std.specs.Prelude.{◌≡◌, ◌≤◌, ◌<◌, ◌+◌, ◌^◌, ◌++◌, [], ◌∷◌, None, length, map, slice_get, ℕ, is_some, if◌then◌else◌, IfOk, OnOk};
 ghost use Rattle.ctr_snap.specs.Seeing.{least};
 ghost use Rattle.ctr_meta.specs.Tables.{heads_at, is_in, heads_in, without_xid, with_heads};
 
@@ -54,6 +54,16 @@ impl Xids {
         ensures { result ≡ is_in x self.now.entries }
     {
         self.heads.contains_key(&x)
+    }
+
+    /// One of them with its heads, by its place in their order; none behind the last.
+    pub fn at(&self, place: usize) -> Option<(Xid, u64)>
+        ensures { result ≡ slice_get self.now.entries place }
+    {
+        match self.heads.get_index(place) {
+            Some((x, heads)) => Some((*x, *heads)),
+            None => None,
+        }
     }
 
     /// Takes room for so many more.

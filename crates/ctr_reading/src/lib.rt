@@ -21,5 +21,6 @@ pub use ctr_views::{
 pub use ctr_walk::an_entry_has_columns;
 pub use key::row_of_key;
 pub use laws::rows_are_those_of_the_view;
+pub use pages::{PageSlots, next_page, slots_on};
 pub use sight::Sight;
 pub use table::rows_of_table;

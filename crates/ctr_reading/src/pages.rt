@@ -49,16 +49,18 @@ fn next_on<D: Disk, O: Origin>(
     found_on(p, next_in(chain, counted, page))
 }
 
-/// The page behind one of a bucket; 0 for none.
-pub(crate) fn next_page<D: Disk, O: Origin>(
+/// The page behind one of a chain of a table; 0 for none. Its header is checked as it is read. It logs nothing, and takes no memory.
+pub fn next_page<D: Disk, O: Origin>(
     store: &mut Store<D, O>,
     chain: Chain,
     p: PageNo,
 ) -> Result<PageNo, StoreFault>
     requires going { store.old.stopped ≡ false }
     requires counted { p < store.old.now.counted }
+    // Damage is of the header, and is told where that stands in the file of pages.
     ensures ends { WhereSound O.first D.Disk (EndsTold (damage_told D.Disk store.new) (EndsOnPage p (NextSaid chain store.old.now.counted (pages_in store.old.now p))) result) }
     ensures tells { WhereSound O.first D.Disk (3 ≤ p → IfOk result (λ n. n ≡ ((area_in store.old.now).header p).next)) }
+    // Of a page of a bucket it is refused for no other cause than that the disk failed.
     ensures refused { WhereSound O.first D.Disk (IsBucketPage chain p store.old.now → IfErr result (λ e. e ≡ Fault)) }
     ensures inside { IfOk result (λ n. n < store.old.now.counted) }
     ensures leaves { ReadsPages O.first D.Disk store.old store.new result }
@@ -71,10 +73,10 @@ pub(crate) fn next_page<D: Disk, O: Origin>(
 
 /// The slots of a page of rows: how many there are, and the table.
 #[derive(Clone, Copy)]
-pub(crate) struct PageSlots {
-    pub(crate) page: PageNo,
-    pub(crate) table: TableOf,
-    pub(crate) count: u16,
+pub struct PageSlots {
+    pub page: PageNo,
+    pub table: TableOf,
+    pub count: u16,
 }
 
 /// The table that a page of rows is of, with damage as it is told.
@@ -89,8 +91,8 @@ fn table_told<D: Disk, O: Origin>(store: &mut Store<D, O>, p: PageNo) -> Result<
     tell(store, found)
 }
 
-/// The slots of a page of rows.
-pub(crate) fn slots_on<D: Disk, O: Origin>(
+/// The slots of a page of rows, which is checked as it is read, with its table. It logs nothing, and takes no memory.
+pub fn slots_on<D: Disk, O: Origin>(
     store: &mut Store<D, O>,
     p: PageNo,
 ) -> Result<PageSlots, StoreFault>
@@ -98,6 +100,7 @@ pub(crate) fn slots_on<D: Disk, O: Origin>(
     requires counted { p < store.old.now.counted }
     ensures are { WhereSound O.first D.Disk (IfOk result (ArePageSlots store.old.now)) }
     ensures fits { IfOk result (λ s. TableFits s.table × (s.page ≡ p)) }
+    // Of a page of a bucket it is refused for no other cause than that the disk failed.
     ensures refused { (chain : ChainOf) → WhereSound O.first D.Disk (IsBucketPage chain p store.old.now → IfErr result (λ e. e ≡ Fault)) }
     ensures leaves { ReadsPages O.first D.Disk store.old store.new result }
 {
