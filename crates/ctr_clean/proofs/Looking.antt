@@ -1,5 +1,5 @@
 -- What is read of a slot, and what its record is to a turn.
-use Rattle.std.proofs.Common.{◌≡◌, ℕ, inl, inr, Bool, true, false, List, Result, Ok, Err, refl, sym, ap}
+use Rattle.std.proofs.Common.{◌≡◌, ℕ, inl, inr, Bool, true, false, List, Some, Result, Ok, Err, refl, sym, ap}
 use Rattle.std.specs.Prelude.{⊤, ◌&&◌, nat_lt}
 use Rattle.ctr_bytes.specs.Following.{◌>>=◌}
 use Rattle.ctr_disk.specs.declared.disk.Disk.{Ghosts}
@@ -10,15 +10,20 @@ use Rattle.ctr_page.specs.declared.rows.Place.{Place}
 use Rattle.ctr_meta.specs.Tables.{Tables}
 use Rattle.ctr_area.specs.Images.{is_committed_in}
 use Rattle.ctr_area.specs.Reading.{area_of}
-use Rattle.ctr_record_laws.specs.Owed.{PassCommitted}
+use Rattle.ctr_area.specs.Chains.{slot_places}
+use Rattle.ctr_area.specs.Sound.{IsAmong}
+use Rattle.ctr_redo.specs.States.{State}
+use Rattle.ctr_record_effects.specs.States.{area_in}
+use Rattle.ctr_record_laws.specs.Owed.{PassCommitted, OwedByTrim}
 use Rattle.ctr_store.specs.Store.{View}
 use Rattle.ctr_pvs.specs.Slots.{SlotSaidAt}
 use Rattle.ctr_chain.specs.Seeking.{entries_on, sought_in, sought_at, xids_found}
 use Rattle.ctr_trim.specs.undamaged_Undamaged.{MeetsNoDamage}
 use Rattle.ctr_page_turns.specs.Turns.{Turns, Reads, LogsARecord}
 use Rattle.ctr_trim.specs.declared.slots.TrimWay.{TrimWay}
-use Rattle.ctr_trim.specs.Trimming.{trim_record, TrimsSlot}
+use Rattle.ctr_trim.specs.Trimming.{trimming_by, trim_record, TrimsSlot}
 use Rattle.ctr_clean.specs.Choosing.{passes_below}
+use Rattle.ctr_clean.specs.Steps.{Locks, ChoosesAt}
 
 -- where a search through the versions of the row at a place meets no damage, its slot is read without
 pub slot_undamaged : (sought : ℕ → Bool) (counted : ℕ) (pages : ℕ → List ℕ) (at : Place) → MeetsNoDamage (λ r. r ≡ xids_found (sought_at sought counted pages at)) → (bad : BadChain)
@@ -39,3 +44,8 @@ pass_committed low tables x passes = first (is_committed_in tables x) (nat_lt x 
     first : (a b : Bool) → (a && b) ≡ true → a ≡ true
     first true b is = refl
     first false b is = absurd cc
+
+-- what is chosen is owed for
+pub owed_by : (low : ℕ) (locks : Locks) (e : ℕ) (at : Place) (s : State) (way : TrimWay) → IsAmong at (slot_places (area_in s) e) → ChoosesAt low locks e at s (Some way)
+    → OwedByTrim (passes_below low s.tables) s.tables (area_in s) e at (trimming_by way)
+owed_by low locks e at s way among chosen = record { used = (among, chosen.0); old = pass_committed low s.tables; fits = chosen.2.0; some = chosen.2.1 }

@@ -1,11 +1,12 @@
 -- One step of the cleaner, at one place: it logs the record of one of its actions, which owes
 -- nothing more, or it does nothing.
-use Rattle.std.specs.Prelude.{◌≡◌, ℕ, ◌+◌, List, true, Option, None, Some, ℤ}
+use Rattle.std.specs.Prelude.{◌≡◌, ℕ, ◌+◌, List, Bool, true, false, Option, None, Some, ℤ}
+use Rattle.ctr_meta.specs.Tables.{is_in}
 use Rattle.ctr_page.specs.declared.rows.Place.{Place}
 use Rattle.ctr_locks.specs.Held.{LocksOfSession, locks_key, first_that}
 use Rattle.ctr_redo.specs.States.{State}
 use Rattle.ctr_record_effects.specs.States.{area_in}
-use Rattle.ctr_record_laws.specs.Owed.{Trimming, OwedByTrim}
+use Rattle.ctr_record_laws.specs.Owed.{Reverting, OwedByRevert, Trimming, OwedByTrim}
 use Rattle.ctr_actions.specs.Sites.{Site, site_of}
 use Rattle.ctr_actions.specs.Actions.{Action, Reverts, Trims, Cuts, FreesOlder}
 use Rattle.ctr_actions.specs.Cleaning.{IsCleaning}
@@ -13,6 +14,8 @@ use Rattle.ctr_page_turns.specs.Acts.{ActsBy}
 use Rattle.ctr_trim.specs.declared.slots.TrimWay.{TrimWay}
 use Rattle.ctr_trim.specs.Trimming.{trimming_by}
 use Rattle.ctr_clean.specs.Choosing.{passes_below, MayTrim}
+use Rattle.ctr_clean.specs.declared.choosing.SlotTask.{SlotTask}
+use Rattle.ctr_clean.specs.declared.choosing.SlotTask.TheVariants as task
 use Rattle.ctr_clean.specs.declared.steps.Step.{Step}
 use Rattle.ctr_clean.specs.declared.steps.Step.TheVariants.{Cleaned, Nothing}
 
@@ -54,8 +57,51 @@ ChoosesAt low locks e at s None = HasNoTrim low locks e at s
 
 -- What a step at a slot of a live table did.
 abbrev pub TrimsAt : ℕ → Locks → ℕ → Place → State → State → Step → Type 0
-TrimsAt low locks e at s t Cleaned = CleansOne low locks s t
+TrimsAt low locks e at s t Cleaned = (one : CleansOne low locks s t)
+    × ((way : Trimming) × (one.action ≡ Trims (passes_below low s.tables) e at way))
 TrimsAt low locks e at s t Nothing = (t ≡ s) × HasNoTrim low locks e at s
+
+-- ---- heads
+
+-- no head at a place of a table may be taken from its row, unless that is locked
+abbrev pub HasNoRevert : Locks → ℕ → Place → State → Type 0
+HasNoRevert locks e at s = IsUnlocked locks e ((area_in s).slot at).key → (way : Reverting)
+    → OwedByRevert s.tables (area_in s) e at way → ⊥
+
+-- The head of the slot at a place is by a transaction that is rolled back, and its row isn't
+-- locked; or no head there may be taken.
+abbrev pub GoesAt : Locks → ℕ → Place → State → Bool → Type 0
+GoesAt locks e at s true = (((area_in s).slot at).used ≡ true)
+    × IsUnlocked locks e ((area_in s).slot at).key
+    × (is_in ((area_in s).slot at).head.0 s.tables.aborted ≡ true)
+GoesAt locks e at s false = HasNoRevert locks e at s
+
+-- What a step did that takes a head from a slot of a table, live or dead.
+abbrev pub RevertsAt : ℕ → Locks → ℕ → Place → State → State → Step → Type 0
+RevertsAt low locks e at s t Cleaned = (one : CleansOne low locks s t)
+    × ((way : Reverting) × (one.action ≡ Reverts e at way))
+RevertsAt low locks e at s t Nothing = (t ≡ s) × HasNoRevert locks e at s
+
+-- ---- a slot of a live table
+
+-- What is to be done with the slot at a place, whose row isn't locked; or neither may its head be
+-- taken, nor may it be trimmed.
+abbrev pub TaskAt : ℕ → Locks → ℕ → Place → State → SlotTask → Type 0
+TaskAt low locks e at s task.Nothing = HasNoRevert locks e at s × HasNoTrim low locks e at s
+TaskAt low locks e at s task.Revert = GoesAt locks e at s true
+TaskAt low locks e at s (task.Trim way) = ChoosesAt low locks e at s (Some way)
+
+-- The action is of the slot at a place: its head is taken, or it is trimmed.
+abbrev pub IsOfSlot : ℕ → Place → Action → Type 0
+IsOfSlot e at (Reverts f b way) = (f ≡ e) × (b ≡ at)
+IsOfSlot e at (Trims passes f b way) = (f ≡ e) × (b ≡ at)
+IsOfSlot e at a = ⊥
+
+-- What a step did at a slot of a live table.
+abbrev pub CleansSlot : ℕ → Locks → ℕ → Place → State → State → Step → Type 0
+CleansSlot low locks e at s t Cleaned = (one : CleansOne low locks s t) × IsOfSlot e at one.action
+CleansSlot low locks e at s t Nothing =
+    (t ≡ s) × HasNoRevert locks e at s × HasNoTrim low locks e at s
 
 -- the log's next number behind a step
 abbrev pub next_stepped : Step → ℕ → ℕ

@@ -1,8 +1,9 @@
 // What is to be cleaned of a slot.
-ghost use Rattle.std.specs.Prelude.{◌≡◌, ◌<◌, true, List};
+ghost use Rattle.std.specs.Prelude.{◌≡◌, true, List};
 ghost use Rattle.std.specs.Option.{option_map};
 ghost use Rattle.ctr_pvs.specs.declared.slot.LentPart.{LentPart as Part};
 ghost use Rattle.ctr_types.specs.declared.value.Column.{Column};
+ghost use Rattle.ctr_meta.specs.Tables.{is_in};
 ghost use Rattle.ctr_area.specs.Areas.{Slot};
 ghost use Rattle.ctr_area.specs.Reading.{slot_said};
 ghost use Rattle.ctr_pvs.specs.Slots.{slot_lent};
@@ -64,7 +65,7 @@ pub fn facts_of(slot: &LentSlot) -> SlotFacts
 }
 
 /// Whether everybody sees what a transaction did, by the low mark; 0 is nobody's number.
-fn passes(meta: &Meta, low: Xid, x: Xid) -> bool
+pub(crate) fn passes(meta: &Meta, low: Xid, x: Xid) -> bool
     ensures { result ≡ passes_below low meta.now.tables x }
 {
     x != 0 && meta.fate(x) == Fate::Committed && x < low
@@ -91,19 +92,25 @@ pub(crate) fn trim_of(meta: &Meta, low: Xid, slot: &SlotFacts) -> Option<TrimWay
     }
 }
 
+/// Whether a transaction is rolled back, and has or had heads; 0 is nobody's number.
+pub(crate) fn is_rolled_back(meta: &Meta, x: Xid) -> bool
+    ensures { result ≡ is_in x meta.now.tables.aborted }
+{
+    let _next = meta.next();
+    x != 0 && meta.fate(x) == Fate::Aborted
+}
+
 /// What is to be done with a used slot: its head is taken where it is by a transaction that is rolled back; else it is trimmed, where it
 /// may be.
 pub fn task_of(meta: &Meta, low: Xid, slot: &SlotFacts) -> SlotTask
     requires used { slot.now.used ≡ true }
-    requires some { 0 < slot.now.head }
     ensures { (there : Slot) → Tells there slot.now → IsTask (passes_below low meta.now.tables) meta.now.tables there result }
 {
-    let _next = meta.next();
-    match meta.fate(slot.head) {
-        Fate::Aborted => SlotTask::Revert,
-        _ => match trim_of(meta, low, slot) {
-            Some(way) => SlotTask::Trim(way),
-            None => SlotTask::Nothing,
-        },
+    if is_rolled_back(meta, slot.head) {
+        return SlotTask::Revert;
+    }
+    match trim_of(meta, low, slot) {
+        Some(way) => SlotTask::Trim(way),
+        None => SlotTask::Nothing,
     }
 }

@@ -1,5 +1,5 @@
 // One step of the cleaner, at one place.
-ghost use Rattle.std.specs.Prelude.{◌≡◌, ◌<◌, ℕ, true, false, IfOk, IfErr};
+ghost use Rattle.std.specs.Prelude.{◌≡◌, ◌<◌, ℕ, true, false, IfOk, IfErr, OnOk};
 ghost use Rattle.ctr_disk.specs.declared.fault.StoreFault.TheVariants.{Fault};
 ghost use Rattle.ctr_base.specs.Base.{WhereSound};
 ghost use Rattle.ctr_page.specs.declared.rows.Place.{Place as PlaceOf};
@@ -12,6 +12,7 @@ ghost use Rattle.ctr_record_effects.specs.Standing.{IsDatabaseState};
 ghost use Rattle.ctr_walk.specs.OneRecord.{HasRoomForOne};
 ghost use Rattle.ctr_walk.specs.Damage.{ReadsPages};
 ghost use Rattle.ctr_page_turns.specs.Turns.{Turns};
+ghost use Rattle.ctr_page_turns.specs.Rooms.{AddsItems};
 ghost use Rattle.ctr_clean.specs.Choosing.{Tells};
 ghost use Rattle.ctr_clean.specs.Steps.{ChoosesAt, TrimsAt, next_stepped};
 
@@ -38,7 +39,7 @@ pub enum Step {
 }
 
 /// What there is to know of the slot at a place.
-fn look_at<D: Disk, O: Origin>(
+pub(crate) fn look_at<D: Disk, O: Origin>(
     store: &mut Store<D, O>,
     place: Place,
 ) -> Result<SlotFacts, StoreFault>
@@ -99,6 +100,9 @@ pub fn trim_at<D: Disk, O: Origin>(
     // It logs one record, or reads pages.
     ensures turns { Turns O.first D.Disk store.old store.new result }
     ensures numbers { IfOk result (λ t. store.new.next ≡ next_stepped t store.old.next) }
+    // No transaction and no item is added to the tables, and as many pages are counted.
+    ensures left { OnOk result (AddsItems 0 store.old.meta store.new.meta) }
+    ensures counted { OnOk result (store.new.now.counted ≡ store.old.now.counted) }
     // That is an action of the cleaner's, which owes nothing more; or nothing is to be trimmed there.
     ensures cleans { WhereSound O.first D.Disk (IsDatabaseState store.old.now → IsAmong place (slot_places (area_in store.old.now) entry)
         → is_live ((area_in store.old.now).title entry) ≡ true → IfOk result (TrimsAt low locks.now entry place store.old.now store.new.now)) }

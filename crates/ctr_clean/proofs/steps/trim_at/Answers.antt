@@ -1,13 +1,10 @@
-use Rattle.std.proofs.Common.{◌≡◌, ℕ, Option, Some, Ok, Err, refl, subst}
+use Rattle.std.proofs.Common.{◌≡◌, Option, Ok, Err, refl, subst}
 use Rattle.ctr_disk.specs.declared.fault.StoreFault.TheVariants.{Fault}
 use Rattle.ctr_redo.specs.States.{State}
-use Rattle.ctr_area.specs.Chains.{slot_places}
-use Rattle.ctr_area.specs.Sound.{IsAmong}
 use Rattle.ctr_record_effects.specs.States.{area_in}
 use Rattle.ctr_record_effects.specs.Standing.{IsDatabaseState}
 use Rattle.ctr_record_laws.specs.Owed.{OwedByTrim}
 use Rattle.ctr_actions.specs.Actions.{Trims}
-use Rattle.ctr_page.specs.declared.rows.Place.{Place}
 use Rattle.ctr_walk.proofs.Joins.{answers_ok}
 use Rattle.ctr_page_turns.specs.Turns.{Reads}
 use Rattle.ctr_page_turns.specs.Acts.{ActsBy}
@@ -17,14 +14,9 @@ use Rattle.ctr_trim.proofs.Reading.{reads_fault}
 use Rattle.ctr_clean.specs.declared.steps.Step.{Step}
 use Rattle.ctr_clean.specs.declared.steps.Step.TheVariants.{Cleaned, Nothing}
 use Rattle.ctr_clean.specs.Choosing.{passes_below}
-use Rattle.ctr_clean.specs.Steps.{Locks, ChoosesAt}
-use Rattle.ctr_clean.proofs.Looking.{trims_turn, pass_committed}
+use Rattle.ctr_clean.specs.Steps.{ChoosesAt}
+use Rattle.ctr_clean.proofs.Looking.{trims_turn, owed_by}
 use Rattle.ctr_clean.proofs.steps.trim_at.Goals as goal
-
--- what is chosen is owed for
-owed_by : (low : ℕ) (locks : Locks) (e : ℕ) (at : Place) (s : State) (way : TrimWay) → IsAmong at (slot_places (area_in s) e) → ChoosesAt low locks e at s (Some way)
-    → OwedByTrim (passes_below low s.tables) s.tables (area_in s) e at (trimming_by way)
-owed_by low locks e at s way among chosen = record { used = (among, chosen.0); old = pass_committed low s.tables; fits = chosen.2.0; some = chosen.2.1 }
 
 pub returns-in-Err-clause-turns : goal.returns-in-Err-clause-turns
 returns-in-Err-clause-turns g c = Reads (reads_fault g.O.Origin.first g.D.Disk c.args.store.now c.choose_at.new.store (Option TrimWay) Step c.in-Err.fault c.choose_at.result c.in-Err.is c.choose_at.ensures.leaves)
@@ -73,11 +65,13 @@ returns-in-Ok-clause-cleans g c = λ told sound database among live.
     let at = c.args.place in
     let way = c.in-Ok-Some.way in
     let passes = passes_below c.args.low s.tables in
-    let chosen = subst (λ (o : Option TrimWay). ChoosesAt c.args.low c.args.locks.now e at s o) c.in-Ok-Some.field-0-is (c.in-Ok-Some.ensures.chooses told sound) in
-    record {
-      action = Trims passes e at (trimming_by way);
-      cleaning = (refl, live);
-      free = chosen.1;
-      acts = subst (λ (u : State). IsDatabaseState u → OwedByTrim passes u.tables (area_in u) e at (trimming_by way) → ActsBy s.tables.next (Trims passes e at (trimming_by way)) u c.trim_slot.new.store.now)
-          (c.in-Ok-Some.ensures.leaves.logs told sound).now (c.in-Ok.ensures.acts s.tables.next e passes told sound) database (owed_by c.args.low c.args.locks.now e at s way among chosen);
-    }
+    let chosen = subst (λ (o : Option TrimWay). ChoosesAt c.args.low c.args.locks.now e at s o) c.in-Ok-Some.field-0-is (c.in-Ok-Some.ensures.chooses told sound) in (
+      record {
+        action = Trims passes e at (trimming_by way);
+        cleaning = (refl, live);
+        free = chosen.1;
+        acts = subst (λ (u : State). IsDatabaseState u → OwedByTrim passes u.tables (area_in u) e at (trimming_by way) → ActsBy s.tables.next (Trims passes e at (trimming_by way)) u c.trim_slot.new.store.now)
+            (c.in-Ok-Some.ensures.leaves.logs told sound).now (c.in-Ok.ensures.acts s.tables.next e passes told sound) database (owed_by c.args.low c.args.locks.now e at s way among chosen);
+      },
+      (trimming_by way, refl),
+    )

@@ -1,0 +1,15 @@
+use Rattle.std.proofs.Common.{Ok}
+use Rattle.std.specs.Prelude.{IsTrue, ⊤}
+use Rattle.ctr_base.specs.Base.{IsSoundImage}
+use Rattle.ctr_store.specs.Store.{LeavesPage}
+use Rattle.ctr_record_effects.specs.States.{area_in}
+use Rattle.ctr_clean.proofs.Along.{IsOnWay}
+use Rattle.ctr_clean.proofs.older.chain_has.Given as goal
+
+abbrev pub invariant-loop-left : goal.invariant-loop-left
+invariant-loop-left g l =
+    LeavesPage {T = ⊤} g.O.Origin.first g.D.Disk l.fn.store l.store (Ok tt)
+    × (IsTrue g.D.Disk.tells → IsSoundImage g.O.Origin.first → IsOnWay (area_in l.fn.store.now) l.fn.from l.at l.fn.sought l.left)
+
+abbrev pub decreases-loop-left : goal.decreases-loop-left
+decreases-loop-left g l = l.left

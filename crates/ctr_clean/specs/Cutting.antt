@@ -1,0 +1,62 @@
+-- What a step of the cleaner did behind a version entry.
+use Rattle.std.specs.Prelude.{◌≡◌, ◌≢◌, ℕ, Bool, true, false, Option, None, Some}
+use Rattle.ctr_page.specs.declared.rows.Place.{Place}
+use Rattle.ctr_redo.specs.States.{State}
+use Rattle.ctr_area.specs.Areas.{Slot, Area}
+use Rattle.ctr_area.specs.Chains.{older_bound, places_along}
+use Rattle.ctr_record_effects.specs.States.{area_in}
+use Rattle.ctr_record_laws.specs.Owed.{IsFirstPassing, PreviousStays, OwedByCut}
+use Rattle.ctr_actions.specs.Actions.{Cuts}
+use Rattle.ctr_clean.specs.Choosing.{passes_below}
+use Rattle.ctr_clean.specs.Steps.{Locks, IsUnlocked, CleansOne}
+use Rattle.ctr_clean.specs.declared.steps.Step.{Step}
+use Rattle.ctr_clean.specs.declared.steps.Step.TheVariants.{Cleaned, Nothing}
+
+-- of the version entries of a chain that begins at a place this is the first whose version passes
+abbrev pub IsFirstFrom : (ℕ → Bool) → Area → Place → Place → Type 0
+IsFirstFrom passes area from q =
+    IsFirstPassing passes area.older q (places_along older_bound area.older from)
+
+-- It is, and another one is behind it; or none is.
+abbrev pub IsCutAlong : (ℕ → Bool) → Area → Place → Option Place → Type 0
+IsCutAlong passes area from (Some q) =
+    IsFirstFrom passes area from q × ((area.older q).pointer.page ≢ 0)
+IsCutAlong passes area from None = (q : Place) → IsFirstFrom passes area from q
+    → (area.older q).pointer.page ≢ 0 → ⊥
+
+-- a version of the slot's own passes, the head or the previous one; or neither does
+abbrev pub OwnPasses : (ℕ → Bool) → Slot → Bool → Type 0
+OwnPasses passes slot true =
+    passes slot.head.0 ≡ false → PreviousStays passes slot.previous → ⊥
+OwnPasses passes slot false =
+    (passes slot.head.0 ≡ false) × PreviousStays passes slot.previous
+
+-- what is owed for the chain of a slot to be cut behind a version entry
+abbrev pub OwesCut : ℕ → ℕ → Place → State → Place → Type 0
+OwesCut low e at s q = OwedByCut (passes_below low s.tables) (area_in s) e at q
+
+-- the chain of a slot may not be cut behind any, unless its row is locked
+abbrev pub HasNoCut : ℕ → Locks → ℕ → Place → State → Type 0
+HasNoCut low locks e at s = IsUnlocked locks e ((area_in s).slot at).key → (q : Place)
+    → OwesCut low e at s q → ⊥
+
+-- A slot is used, its row isn't locked, and neither of its own versions passes; or its chain may
+-- not be cut behind any version entry.
+abbrev pub GoesBehind : ℕ → Locks → ℕ → Place → State → Bool → Type 0
+GoesBehind low locks e at s true = (((area_in s).slot at).used ≡ true)
+    × IsUnlocked locks e ((area_in s).slot at).key
+    × (passes_below low s.tables ((area_in s).slot at).head.0 ≡ false)
+    × PreviousStays (passes_below low s.tables) ((area_in s).slot at).previous
+GoesBehind low locks e at s false = HasNoCut low locks e at s
+
+-- Its chain may be cut behind this one, and its row isn't locked; or behind none.
+abbrev pub CutsBehind : ℕ → Locks → ℕ → Place → State → Option Place → Type 0
+CutsBehind low locks e at s (Some q) =
+    IsUnlocked locks e ((area_in s).slot at).key × OwesCut low e at s q
+CutsBehind low locks e at s None = HasNoCut low locks e at s
+
+-- What a step at a slot of a live table did.
+abbrev pub CutsAt : ℕ → Locks → ℕ → Place → State → State → Step → Type 0
+CutsAt low locks e at s t Cleaned = (one : CleansOne low locks s t)
+    × ((q : Place) × (one.action ≡ Cuts (passes_below low s.tables) e at q))
+CutsAt low locks e at s t Nothing = (t ≡ s) × HasNoCut low locks e at s

@@ -1,0 +1,38 @@
+-- What a step of the cleaner did in the lists of the tables.
+use Rattle.std.specs.Prelude.{◌≡◌, ℕ, Option, None, Some, slice_get}
+use Rattle.ctr_rec.specs.declared.record.SlogItem.TheVariants.{FreeOf}
+use Rattle.ctr_meta.specs.Tables.{Tables}
+use Rattle.ctr_redo.specs.States.{State}
+use Rattle.ctr_area.specs.Sound.{IsAmong}
+use Rattle.ctr_record_laws.specs.Owed.{OwedByForget}
+use Rattle.ctr_actions.specs.Actions.{Reclaims, Forgets}
+use Rattle.ctr_clean.specs.Steps.{Locks, CleansOne}
+use Rattle.ctr_clean.specs.declared.steps.Step.{Step}
+use Rattle.ctr_clean.specs.declared.steps.Step.TheVariants.{Cleaned, Nothing}
+
+-- no transaction at a place of the aborted transaction map may be forgotten
+abbrev pub HasNoForget : ℕ → Tables → Type 0
+HasNoForget place tables = (x heads : ℕ) → slice_get tables.aborted place ≡ Some (x, heads)
+    → OwedByForget tables x → ⊥
+
+-- This transaction at a place of the map may be forgotten; or none there may be.
+abbrev pub IsWithoutHead : ℕ → Tables → Option ℕ → Type 0
+IsWithoutHead place tables (Some x) =
+    (slice_get tables.aborted place ≡ Some (x, 0)) × OwedByForget tables x
+IsWithoutHead place tables None = HasNoForget place tables
+
+-- What a step at a place of the map did.
+abbrev pub ForgetsAt : ℕ → Locks → ℕ → State → State → Step → Type 0
+ForgetsAt low locks place s t Cleaned = (one : CleansOne low locks s t)
+    × ((x : ℕ) × (slice_get s.tables.aborted place ≡ Some (x, 0)) × (one.action ≡ Forgets x))
+ForgetsAt low locks place s t Nothing = (t ≡ s) × HasNoForget place s.tables
+
+-- no page waits to be free again
+abbrev pub HasNoFree : Tables → Type 0
+HasNoFree tables = (p : ℕ) → IsAmong (FreeOf p) tables.items → ⊥
+
+-- What a step did for pages that left their chains.
+abbrev pub ReclaimsOne : ℕ → Locks → State → State → Step → Type 0
+ReclaimsOne low locks s t Cleaned = (one : CleansOne low locks s t)
+    × ((p : ℕ) × (one.action ≡ Reclaims p))
+ReclaimsOne low locks s t Nothing = (t ≡ s) × HasNoFree s.tables

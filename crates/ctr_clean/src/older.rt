@@ -1,0 +1,232 @@
+// A step at a version entry that no chain has.
+ghost use Rattle.std.specs.Prelude.{◌≡◌, ◌<◌, ℕ, ℤ, List, true, false, IfOk, IfErr, OnOk};
+ghost use Rattle.ctr_types.specs.declared.value.Column.{Column};
+ghost use Rattle.ctr_disk.specs.declared.fault.StoreFault.TheVariants.{Fault};
+ghost use Rattle.ctr_base.specs.Base.{WhereSound};
+ghost use Rattle.ctr_store.specs.Store.{LeavesPage};
+ghost use Rattle.ctr_area.specs.Areas.{Older};
+ghost use Rattle.ctr_area.specs.Chains.{older_bound, older_places, Leads};
+ghost use Rattle.ctr_area.specs.Images.{is_live};
+ghost use Rattle.ctr_area.specs.Reading.{older_said};
+ghost use Rattle.ctr_area.specs.Sound.{IsAmong, IsKeptFor};
+ghost use Rattle.ctr_record_effects.specs.States.{area_in};
+ghost use Rattle.ctr_record_effects.specs.Standing.{IsDatabaseState};
+ghost use Rattle.ctr_walk.specs.OneRecord.{HasRoomForOne};
+ghost use Rattle.ctr_walk.specs.Damage.{ReadsPages};
+ghost use Rattle.ctr_pvs.specs.Lending.{entry_lent};
+ghost use Rattle.ctr_page_turns.specs.Rooms.{AddsItems};
+ghost use Rattle.ctr_page_turns.specs.Turns.{Turns};
+ghost use Rattle.ctr_clean.specs.Steps.{next_stepped};
+ghost use Rattle.ctr_clean.specs.Older.{IsSaid, IsOpenKey, HasAlong, IsHadBy, LooseAt, FreesAt};
+
+use crate::heads::behind_at;
+use crate::steps::Step;
+use ctr_base::Origin;
+use ctr_disk::{Disk, StoreFault};
+use ctr_heap::find;
+use ctr_locks::KeyLocks;
+use ctr_model::Key;
+use ctr_page::Place;
+use ctr_page_turns::{a_turn_goes_on, room_is_still_there};
+use ctr_pvs::{LentVersion, version};
+use ctr_store::Store;
+use ctr_trim::free_loose;
+use ctr_types::Xid;
+use ctr_undamaged::{
+    a_bucket_search_meets_no_damage, a_place_of_a_table_fits,
+    a_version_entry_is_read_without_damage,
+};
+
+/// As many version entries as stand on all pages that can be counted: no chain has more.
+pub(crate) const MOST_OLDER: u32 = 5_100_000;
+
+/// What there is to know of a version entry: whether it is used; and if so the key, whose the version is, and where it leads.
+#[derive(Clone, Copy, Debug, PartialEq, Eq)]
+pub(crate) struct OlderFacts {
+    pub(crate) used: bool,
+    pub(crate) key: i64,
+    pub(crate) xid: Xid,
+    /// Page 0 where it leads nowhere.
+    pub(crate) next: Place,
+}
+
+/// What there is to know of a version entry that is lent.
+fn facts_lent(entry: &LentVersion) -> OlderFacts
+    ensures { (columns : List Column) → IsSaid (older_said columns (entry_lent entry.now)) result }
+{
+    if entry.used == 1 {
+        OlderFacts {
+            used: true,
+            key: entry.key,
+            xid: entry.xid,
+            next: entry.older,
+        }
+    } else {
+        OlderFacts {
+            used: false,
+            key: 0,
+            xid: 0,
+            next: Place { page: 0, slot: 0 },
+        }
+    }
+}
+
+/// What there is to know of the version entry at a place.
+pub(crate) fn look_older<D: Disk, O: Origin>(
+    store: &mut Store<D, O>,
+    place: Place,
+) -> Result<OlderFacts, StoreFault>
+    requires going { store.old.stopped ≡ false }
+    requires counted { place.page < store.old.now.counted }
+    ensures tells { WhereSound O.first D.Disk (IfOk result (IsSaid ((area_in store.old.now).older place))) }
+    ensures leaves { ReadsPages O.first D.Disk store.old store.new result }
+    ensures refused { (e : ℕ) → WhereSound O.first D.Disk (IsDatabaseState store.old.now → IsAmong place (older_places (area_in store.old.now) e) → IfErr result (λ f. f ≡ Fault)) }
+{
+    a_version_entry_is_read_without_damage();
+    match version(store, place) {
+        Err(fault) => Err(fault),
+        Ok(lent) => Ok(facts_lent(&lent)),
+    }
+}
+
+/// Whether two places are one.
+fn is_place(a: Place, b: Place) -> bool
+    ensures yes { result ≡ true → a ≡ b }
+    ensures no { result ≡ false → a ≡ b → ⊥ }
+{
+    a.page == b.page && a.slot == b.slot
+}
+
+/// Whether the chain that begins at a place, behind a slot, has the version entry at another. Each version entry of the chain is read.
+fn chain_has<D: Disk, O: Origin>(
+    store: &mut Store<D, O>,
+    from: Place,
+    sought: Place,
+) -> Result<bool, StoreFault>
+    requires going { store.old.stopped ≡ false }
+    ensures tells { (e : ℕ) (key : ℤ) → WhereSound O.first D.Disk (IsDatabaseState store.old.now
+        → Leads older_bound (area_in store.old.now).older (IsKeptFor (area_in store.old.now) e key) from → IfOk result (HasAlong (area_in store.old.now) from sought)) }
+    ensures leaves { ReadsPages O.first D.Disk store.old store.new result }
+    ensures refused { (e : ℕ) (key : ℤ) → WhereSound O.first D.Disk (IsDatabaseState store.old.now
+        → Leads older_bound (area_in store.old.now).older (IsKeptFor (area_in store.old.now) e key) from → IfErr result (λ f. f ≡ Fault)) }
+{
+    a_place_of_a_table_fits();
+    store.rests();
+    let mut at = from;
+    let mut left = MOST_OLDER;
+    while left != 0 {
+        if at.page == 0 {
+            return Ok(false);
+        }
+        if at.page >= store.counted() {
+            return Ok(false);
+        }
+        if is_place(at, sought) {
+            return Ok(true);
+        }
+        match look_older(store, at) {
+            Err(fault) => return Err(fault),
+            Ok(facts) => at = facts.next,
+        }
+        left -= 1;
+    }
+    Ok(false)
+}
+
+/// Whether the chain of the row of a key has the version entry at a place.
+fn row_has<D: Disk, O: Origin>(
+    store: &mut Store<D, O>,
+    entry: u8,
+    key: i64,
+    place: Place,
+) -> Result<bool, StoreFault>
+    requires going { store.old.stopped ≡ false }
+    requires there { entry < 32 }
+    ensures tells { WhereSound O.first D.Disk (IsDatabaseState store.old.now → IfOk result (IsHadBy entry key place store.old.now)) }
+    ensures leaves { ReadsPages O.first D.Disk store.old store.new result }
+    ensures refused { WhereSound O.first D.Disk (IsDatabaseState store.old.now → IfErr result (λ f. f ≡ Fault)) }
+{
+    a_bucket_search_meets_no_damage();
+    match find(store, entry, key) {
+        Err(fault) => Err(fault),
+        Ok(None) => Ok(false),
+        Ok(Some(at)) => match behind_at(store, at) {
+            Err(fault) => Err(fault),
+            Ok(older) => chain_has(store, older, place),
+        },
+    }
+}
+
+/// The key of a version entry that is in use and whose row isn't locked.
+fn open_key(locks: &KeyLocks, entry: u8, facts: &OlderFacts) -> Option<i64>
+    ensures { (older : Older) → IsSaid older facts.now → IsOpenKey locks.now entry older result }
+{
+    if !facts.used || locks.locked(entry, Key::new(facts.key)).is_some() {
+        return None;
+    }
+    Some(facts.key)
+}
+
+/// Whether the version entry at a place of a table is in use and in no chain, and its row isn't locked.
+fn loose_at<D: Disk, O: Origin>(
+    store: &mut Store<D, O>,
+    locks: &KeyLocks,
+    entry: u8,
+    place: Place,
+) -> Result<bool, StoreFault>
+    requires going { store.old.stopped ≡ false }
+    requires counted { place.page < store.old.now.counted }
+    requires there { entry < 32 }
+    ensures chooses { WhereSound O.first D.Disk (IsDatabaseState store.old.now → IsAmong place (older_places (area_in store.old.now) entry)
+        → IfOk result (LooseAt locks.now entry place store.old.now)) }
+    ensures leaves { ReadsPages O.first D.Disk store.old store.new result }
+    ensures refused { WhereSound O.first D.Disk (IsDatabaseState store.old.now → IsAmong place (older_places (area_in store.old.now) entry) → IfErr result (λ f. f ≡ Fault)) }
+{
+    match look_older(store, place) {
+        Err(fault) => Err(fault),
+        Ok(facts) => match open_key(locks, entry, &facts) {
+            None => Ok(false),
+            Some(key) => match row_has(store, entry, key, place) {
+                Err(fault) => Err(fault),
+                Ok(has) => Ok(!has),
+            },
+        },
+    }
+}
+
+/// Frees the version entry at a place of a live table where no chain has it and its row isn't locked, by one record, which isn't hardened yet.
+/// The row is found by its key, along the chain of its bucket, and each version entry of its chain is read. It takes no memory.
+pub fn free_older_at<D: Disk, O: Origin>(
+    store: &mut Store<D, O>,
+    locks: &KeyLocks,
+    entry: u8,
+    place: Place,
+) -> Result<Step, StoreFault>
+    requires room { HasRoomForOne 0 0 store.old }
+    requires counted { place.page < store.old.now.counted }
+    requires there { entry < 32 }
+    // It logs one record, or reads pages.
+    ensures turns { Turns O.first D.Disk store.old store.new result }
+    ensures numbers { IfOk result (λ t. store.new.next ≡ next_stepped t store.old.next) }
+    // No transaction and no item is added to the tables, and as many pages are counted.
+    ensures left { OnOk result (AddsItems 0 store.old.meta store.new.meta) }
+    ensures counted { OnOk result (store.new.now.counted ≡ store.old.now.counted) }
+    // The version entry is free, whoever is seen by all; or it isn't in use, or a chain has it, unless its row is locked.
+    ensures cleans { (low : ℕ) → WhereSound O.first D.Disk (IsDatabaseState store.old.now → IsAmong place (older_places (area_in store.old.now) entry)
+        → is_live ((area_in store.old.now).title entry) ≡ true → IfOk result (FreesAt low locks.now entry place store.old.now store.new.now)) }
+    // It is refused for no other cause than that the disk failed.
+    ensures refused { WhereSound O.first D.Disk (IsDatabaseState store.old.now → IsAmong place (older_places (area_in store.old.now) entry)
+        → is_live ((area_in store.old.now).title entry) ≡ true → IfErr result (λ f. f ≡ Fault)) }
+{
+    a_turn_goes_on::<D, bool, Step>();
+    a_turn_goes_on::<D, (), Step>();
+    room_is_still_there::<D>();
+    match loose_at(store, locks, entry, place) {
+        Err(fault) => Err(fault),
+        Ok(false) => Ok(Step::Nothing),
+        Ok(true) => match free_loose(store, place) {
+            Err(fault) => Err(fault),
+            Ok(()) => Ok(Step::Cleaned),
+        },
+    }
+}

@@ -1,0 +1,93 @@
+// A step that takes the head from a slot.
+ghost use Rattle.std.specs.Prelude.{◌≡◌, ◌<◌, ℕ, true, false, IfOk, IfErr, OnOk};
+ghost use Rattle.ctr_disk.specs.declared.fault.StoreFault.TheVariants.{Fault};
+ghost use Rattle.ctr_base.specs.Base.{WhereSound};
+ghost use Rattle.ctr_page.specs.declared.rows.Place.{Place as PlaceOf};
+ghost use Rattle.ctr_redo.specs.States.{State};
+ghost use Rattle.ctr_area.specs.Chains.{slot_places};
+ghost use Rattle.ctr_area.specs.Sound.{IsAmong};
+ghost use Rattle.ctr_record_effects.specs.States.{area_in};
+ghost use Rattle.ctr_record_effects.specs.Standing.{IsDatabaseState};
+ghost use Rattle.ctr_walk.specs.OneRecord.{HasRoomForOne};
+ghost use Rattle.ctr_walk.specs.Damage.{ReadsPages};
+ghost use Rattle.ctr_page_turns.specs.Turns.{Turns};
+ghost use Rattle.ctr_page_turns.specs.Rooms.{AddsItems};
+ghost use Rattle.ctr_clean.specs.Choosing.{Tells};
+ghost use Rattle.ctr_clean.specs.Steps.{GoesAt, RevertsAt, next_stepped};
+
+use crate::choosing::{SlotFacts, is_rolled_back};
+use crate::heads::take_head;
+use crate::steps::{Step, look_at};
+use ctr_base::Origin;
+use ctr_disk::{Disk, StoreFault};
+use ctr_locks::KeyLocks;
+use ctr_meta::Meta;
+use ctr_model::Key;
+use ctr_page::Place;
+use ctr_page_turns::{a_turn_goes_on, room_is_still_there};
+use ctr_store::Store;
+
+/// Whether the head of a slot is to be taken, by what is known of it.
+fn goes(meta: &Meta, locks: &KeyLocks, entry: u8, facts: &SlotFacts) -> bool
+    ensures { (s : State) (at : PlaceOf) → meta.now.tables ≡ s.tables → Tells ((area_in s).slot at) facts.now → GoesAt locks.now entry at s result }
+{
+    if !facts.used || locks.locked(entry, Key::new(facts.key)).is_some() {
+        return false;
+    }
+    is_rolled_back(meta, facts.head)
+}
+
+/// The same of a store.
+fn goes_at<D: Disk, O: Origin>(
+    store: &mut Store<D, O>,
+    locks: &KeyLocks,
+    entry: u8,
+    place: Place,
+) -> Result<bool, StoreFault>
+    requires going { store.old.stopped ≡ false }
+    requires counted { place.page < store.old.now.counted }
+    ensures chooses { WhereSound O.first D.Disk (IfOk result (GoesAt locks.now entry place store.old.now)) }
+    ensures leaves { ReadsPages O.first D.Disk store.old store.new result }
+    ensures refused { (e : ℕ) → WhereSound O.first D.Disk (IsDatabaseState store.old.now → IsAmong place (slot_places (area_in store.old.now) e) → IfErr result (λ f. f ≡ Fault)) }
+{
+    match look_at(store, place) {
+        Err(fault) => Err(fault),
+        Ok(facts) => Ok(goes(store.meta(), locks, entry, &facts)),
+    }
+}
+
+/// Takes the head from the slot at a place of a table, live or dead, where it is by a transaction that is rolled back and its row isn't
+/// locked, by one record, which isn't hardened yet. It takes no memory.
+pub fn revert_at<D: Disk, O: Origin>(
+    store: &mut Store<D, O>,
+    locks: &KeyLocks,
+    entry: u8,
+    place: Place,
+) -> Result<Step, StoreFault>
+    requires room { HasRoomForOne 0 0 store.old }
+    requires counted { place.page < store.old.now.counted }
+    // It logs one record, or reads pages.
+    ensures turns { Turns O.first D.Disk store.old store.new result }
+    ensures numbers { IfOk result (λ t. store.new.next ≡ next_stepped t store.old.next) }
+    // No transaction and no item is added to the tables, and as many pages are counted.
+    ensures left { OnOk result (AddsItems 0 store.old.meta store.new.meta) }
+    ensures counted { OnOk result (store.new.now.counted ≡ store.old.now.counted) }
+    // The slot has lost its head, in the way that fits it, whoever is seen by all; or no head there may be taken.
+    ensures cleans { (low : ℕ) → WhereSound O.first D.Disk (IsDatabaseState store.old.now → IsAmong place (slot_places (area_in store.old.now) entry)
+        → IfOk result (RevertsAt low locks.now entry place store.old.now store.new.now)) }
+    // It is refused for no other cause than that the disk failed.
+    ensures refused { WhereSound O.first D.Disk (IsDatabaseState store.old.now → IsAmong place (slot_places (area_in store.old.now) entry)
+        → IfErr result (λ f. f ≡ Fault)) }
+{
+    a_turn_goes_on::<D, bool, Step>();
+    a_turn_goes_on::<D, (), Step>();
+    room_is_still_there::<D>();
+    match goes_at(store, locks, entry, place) {
+        Err(fault) => Err(fault),
+        Ok(false) => Ok(Step::Nothing),
+        Ok(true) => match take_head(store, place) {
+            Err(fault) => Err(fault),
+            Ok(()) => Ok(Step::Cleaned),
+        },
+    }
+}

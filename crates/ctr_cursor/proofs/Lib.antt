@@ -1,0 +1,6 @@
+pub mod Passing
+pub mod Stays
+pub mod OnPages
+pub mod Advances
+pub mod Rooms
+pub mod Leads

@@ -1,0 +1,54 @@
+-- Where a position stands, and which actions take its page from under it.
+use Rattle.std.specs.Prelude.{◌≡◌, ℕ, ◌<◌}
+use Rattle.ctr_page.specs.declared.checks.Chain.{Chain}
+use Rattle.ctr_page.specs.declared.checks.Chain.TheVariants.{Rows, Versions}
+use Rattle.ctr_page.specs.declared.rows.Place.{Place}
+use Rattle.ctr_area.specs.Areas.{Area}
+use Rattle.ctr_area.specs.Chains.{pages_bound, pages_from}
+use Rattle.ctr_area.specs.Sound.{IsAmong}
+use Rattle.ctr_actions.specs.Sites.{Site}
+use Rattle.ctr_actions.specs.Actions.{Action, Unlinks, UnlinksOlder}
+use Rattle.ctr_walk.specs.Tables.{IsChain, first_of_chain}
+use Rattle.ctr_cursor.specs.declared.position.Position.{Position}
+use Rattle.ctr_cursor.specs.declared.position.Position.TheVariants.{Entry, Slot, Kept, Aborted}
+
+-- the kind of the pages of a chain
+abbrev pub kind_of : Chain → ℕ
+kind_of (Rows e bucket) = 1
+kind_of (Versions e) = 2
+
+-- A page stands in a chain.
+abbrev pub IsInChain : Chain → ℕ → Area → Type 0
+IsInChain chain p area = IsAmong p (pages_from pages_bound area.header (first_of_chain area chain))
+
+-- a place of a chain: its page stands there, and has room for it
+abbrev pub IsPlaceIn : Chain → Place → Area → Type 0
+IsPlaceIn chain at area = IsInChain chain at.page area × (at.slot < area.room at.page)
+
+-- A position is one of a site: at one of the 32 entries; at a place of a chain that it names; at an
+-- aborted transaction, whether there is still one of that number or not.
+abbrev pub IsPosition : Position → Site → Type 0
+IsPosition (Entry e) s = e < 32
+IsPosition (Slot e bucket at) s = IsChain (Rows e bucket) × IsPlaceIn (Rows e bucket) at s.area
+IsPosition (Kept e at) s = IsChain (Versions e) × IsPlaceIn (Versions e) at s.area
+IsPosition (Aborted n) s = Unit {0}
+
+-- What a position names is there: one of the 32 entries, one of the 8 buckets, a counted page.
+abbrev pub IsWithin : ℕ → Position → Type 0
+IsWithin counted (Entry e) = e < 32
+IsWithin counted (Slot e bucket at) = IsChain (Rows e bucket) × (at.page < counted)
+IsWithin counted (Kept e at) = IsChain (Versions e) × (at.page < counted)
+IsWithin counted (Aborted n) = Unit {0}
+
+-- an action takes a page from a chain
+abbrev pub TakesFrom : Action → Chain → ℕ → Type 0
+TakesFrom (Unlinks q e bucket) chain p = (chain ≡ Rows e bucket) × (q ≡ p)
+TakesFrom (UnlinksOlder q e) chain p = (chain ≡ Versions e) × (q ≡ p)
+TakesFrom a chain p = ⊥
+
+-- it takes the page of a position from its chain
+abbrev pub TakesPage : Action → Position → Type 0
+TakesPage a (Entry e) = ⊥
+TakesPage a (Slot e bucket at) = TakesFrom a (Rows e bucket) at.page
+TakesPage a (Kept e at) = TakesFrom a (Versions e) at.page
+TakesPage a (Aborted n) = ⊥

@@ -1,0 +1,17 @@
+//! A pass over the places of a database: which position comes behind which, and a step from one to the next.
+//!
+//! Nothing here takes memory.
+#![tactic(auto)]
+
+mod advancing;
+mod laws;
+mod places;
+mod position;
+mod staying;
+
+pub use advancing::advance;
+pub use laws::{
+    a_pass_comes_by_every_place, a_pass_goes_from_position_to_position, a_pass_goes_on,
+};
+pub use position::Position;
+pub use staying::a_position_stays;

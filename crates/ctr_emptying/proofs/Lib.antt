@@ -1,0 +1,4 @@
+pub mod Reading
+pub mod Remaining
+pub mod Settled
+pub mod Turning

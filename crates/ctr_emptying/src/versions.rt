@@ -1,0 +1,46 @@
+// The first page of versions of a table that is dead.
+ghost use Rattle.std.specs.Prelude.{◌≡◌, ◌<◌, IfOk, IfErr};
+ghost use Rattle.ctr_disk.specs.declared.fault.StoreFault.TheVariants.{Fault};
+ghost use Rattle.ctr_base.specs.Base.{WhereSound};
+ghost use Rattle.ctr_record_effects.specs.Standing.{IsDatabaseState};
+ghost use Rattle.ctr_walk.specs.OneRecord.{HasRoomForOne};
+ghost use Rattle.ctr_page_turns.specs.Turns.{Turns};
+ghost use Rattle.ctr_emptying.specs.Emptying.{next_emptied, UnlinksVersionsAt};
+
+use crate::emptied::Emptied;
+use crate::left::{Left, pages_left};
+use ctr_base::Origin;
+use ctr_dead::unlink;
+use ctr_disk::{Disk, StoreFault};
+use ctr_page::Chain;
+use ctr_page_turns::a_turn_goes_on;
+use ctr_store::Store;
+
+/// Takes the first page of versions of a table from its chain, where no bucket has a page, by one record, which isn't hardened yet. It takes
+/// no memory.
+pub fn unlink_versions_at<D: Disk, O: Origin>(
+    store: &mut Store<D, O>,
+    entry: u8,
+) -> Result<Emptied, StoreFault>
+    requires room { HasRoomForOne 0 1 store.old }
+    requires there { entry < 32 }
+    // It logs one record, or reads pages.
+    ensures turns { Turns O.first D.Disk store.old store.new result }
+    ensures numbers { IfOk result (λ t. store.new.next ≡ next_emptied t store.old.next) }
+    // That is the action, which owes nothing more, where no bucket has a page; or a bucket has, or no page may leave the chain.
+    ensures cleans { WhereSound O.first D.Disk (IsDatabaseState store.old.now → IfOk result (UnlinksVersionsAt entry store.old.now store.new.now)) }
+    // It is refused for no other cause than that the disk failed.
+    ensures refused { WhereSound O.first D.Disk (IsDatabaseState store.old.now → IfErr result (λ f. f ≡ Fault)) }
+{
+    a_turn_goes_on::<D, Left, Emptied>();
+    a_turn_goes_on::<D, (), Emptied>();
+    match pages_left(store, entry) {
+        Err(fault) => Err(fault),
+        Ok(Left::Rows) => Ok(Emptied::Nothing),
+        Ok(Left::NoPage) => Ok(Emptied::Nothing),
+        Ok(Left::Versions(p)) => match unlink(store, p, Chain::Versions { entry }) {
+            Err(fault) => Err(fault),
+            Ok(()) => Ok(Emptied::OneRecord),
+        },
+    }
+}
