@@ -182,7 +182,9 @@ pub fn named(
     let Ok(name) = name_of(alloc, name) else {
         return Ok(Told::NotAsked);
     };
-    match find(store, &name, snapshot, me)? {
+    let found = find(store, &name, snapshot, me);
+    drop(name);
+    match found? {
         Some(entry) => Ok(Told::Number(entry as u64)),
         None => Ok(Told::None),
     }
@@ -199,13 +201,15 @@ pub fn changer(
     requires going { store.old.stopped ≡ false }
     ensures going { OnOk result (store.new.stopped ≡ false) }
 {
-    let Ok(name) = name_of(alloc, name) else {
-        return Ok(Told::NotAsked);
-    };
     if entry >= 32 {
         return Ok(Told::NotAsked);
     }
-    match changed(store, entry, &name, snapshot)? {
+    let Ok(name) = name_of(alloc, name) else {
+        return Ok(Told::NotAsked);
+    };
+    let changed = changed(store, entry, &name, snapshot);
+    drop(name);
+    match changed? {
         Some(x) => Ok(Told::Number(x)),
         None => Ok(Told::None),
     }

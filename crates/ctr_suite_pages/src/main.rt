@@ -18,6 +18,7 @@ mod steps;
 mod suite;
 mod told;
 mod turns;
+mod verbs;
 mod versions;
 mod words;
 mod writes;

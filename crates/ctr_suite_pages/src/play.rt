@@ -6,7 +6,7 @@ use crate::files::{alter_page, count_pages, files_of, made, opened};
 use crate::pages::{give_back, grow, make_empty, put_in_front, rows_header, take};
 use crate::player::Player;
 use crate::reads::{cost, newest_of, read};
-use crate::rows::{fill, first, found, put, room, seek};
+use crate::rows::{fill, first, found, put, room, sought};
 use crate::steps::{OutsideStep, PageStep, RowStep, Step, TableStep, TurnStep, VersionStep};
 use crate::suite::Line;
 use crate::told::Told;
@@ -15,6 +15,7 @@ use crate::versions::{add_page, entry as entry_at, lay, lent, put_off, revert, s
 use crate::writes::{write, write_each};
 use ctr_disk::StoreFault;
 use ctr_mem_disk::Image;
+use ctr_page::Place;
 use std::alloc::AllocError;
 
 // A step of transactions and snapshots.
@@ -95,6 +96,23 @@ fn play_table(store: &mut Mem, player: &mut Player, step: TableStep) -> Result<T
     }
 }
 
+// A read by the snapshot of a number.
+fn read_by(
+    store: &mut Mem,
+    player: &Player,
+    place: Place,
+    number: usize,
+    own: bool,
+) -> Result<Told, StoreFault>
+    requires going { store.old.stopped ≡ false }
+    ensures going { OnOk result (store.new.stopped ≡ false) }
+{
+    match player.snapshot(number) {
+        Some(snapshot) => read(player.alloc, store, place, snapshot, player.as_own(own)),
+        None => Ok(Told::NotAsked),
+    }
+}
+
 // A step on rows.
 fn play_row(store: &mut Mem, player: &mut Player, step: RowStep) -> Result<Told, StoreFault>
     requires going { store.old.stopped ≡ false }
@@ -110,17 +128,11 @@ fn play_row(store: &mut Mem, player: &mut Player, step: RowStep) -> Result<Told,
             count,
         } => fill(store, x, entry, width, from, count),
         RowStep::Find { entry, key } => found(store, entry, key),
-        RowStep::Seek { entry, from, count } => {
-            let some = seek(store, entry, from, count, 0)?;
-            Ok(Told::Of(some, count))
-        }
+        RowStep::Seek { entry, from, count } => sought(store, entry, from, count),
         RowStep::Room { entry, bucket } => room(store, entry, bucket),
         RowStep::Write(row) => write(store, x, row),
         RowStep::Each { row, count } => write_each(store, row, count),
-        RowStep::Read { place, number, own } => match player.snapshot(number) {
-            Some(snapshot) => read(player.alloc, store, place, snapshot, player.as_own(own)),
-            None => Ok(Told::NotAsked),
-        },
+        RowStep::Read { place, number, own } => read_by(store, player, place, number, own),
         RowStep::Newest { place } => newest_of(store, place),
     }
 }
@@ -133,21 +145,8 @@ fn play_version(store: &mut Mem, player: &mut Player, step: VersionStep) -> Resu
     match step {
         VersionStep::Versions { entry } => add_page(store, player.x, entry),
         VersionStep::Spare { entry } => spare(store, entry),
-        VersionStep::Row {
-            place,
-            width,
-            key,
-            says,
-            previous,
-            older,
-        } => lay(store, player.x, place, width, key, says, previous, older),
-        VersionStep::Keep {
-            place,
-            width,
-            key,
-            version,
-            older,
-        } => put_off(store, player.x, place, width, key, version, older),
+        VersionStep::Row(slot) => lay(store, player.x, slot),
+        VersionStep::Keep(entry) => put_off(store, player.x, entry),
         VersionStep::Trim { place } => trim(store, place),
         VersionStep::Revert { place } => revert(store, place),
         VersionStep::Slot { place, width } => slot(store, place, width),
@@ -162,14 +161,14 @@ fn play_step(store: &mut Mem, player: &mut Player, step: Step) -> Result<Option<
     ensures going { OnOk result (store.new.stopped ≡ false) }
 {
     let told = match step {
-        Step::Turn(step) => play_turn(store, player, step)?,
-        Step::Page(step) => play_page(store, player, step)?,
-        Step::Table(step) => play_table(store, player, step)?,
-        Step::Row(step) => play_row(store, player, step)?,
-        Step::Version(step) => play_version(store, player, step)?,
+        Step::Turn(step) => play_turn(store, player, step),
+        Step::Page(step) => play_page(store, player, step),
+        Step::Table(step) => play_table(store, player, step),
+        Step::Row(step) => play_row(store, player, step),
+        Step::Version(step) => play_version(store, player, step),
         Step::Outside(_) => return Ok(None),
     };
-    Ok(Some(told))
+    Ok(Some(told?))
 }
 
 // The step of a line on an open store; whether the case goes on.
@@ -276,6 +275,7 @@ fn play_parts(files: &mut Image, player: &mut Player, lines: &[Line]) {
 fn play_new(player: &mut Player, lines: &[Line]) -> Result<(), AllocError> {
     let mut files = made(player.alloc)?;
     play_parts(&mut files, player, lines);
+    drop(files);
     Ok(())
 }
 

@@ -72,7 +72,12 @@ impl Player {
 
     /// The last snapshot of a number.
     pub fn snapshot(&self, number: usize) -> Option<&Snapshot> {
-        let (_, snapshot) = self.snapshots.iter().rev().find(|taken| taken.0 == number)?;
-        Some(snapshot)
+        let mut last = None;
+        for (taken, snapshot) in &self.snapshots {
+            if *taken == number {
+                last = Some(snapshot);
+            }
+        }
+        last
     }
 }

@@ -1,49 +1,50 @@
 // Steps as they are written.
 use crate::steps::{OutsideStep, PageStep, RowStep, Step, TableStep, TurnStep, VersionStep};
+use crate::verbs::{
+    OutsideVerb, PageVerb, PlaceVerb, RowVerb, RuleVerb, TableVerb, TurnVerb, Verb, VersionVerb,
+    verb_of,
+};
+use crate::versions::{NewEntry, NewSlot};
 use crate::words::{place, version};
 use crate::writes::NewRow;
 use ctr_suite::Words;
 use ctr_types::Kind;
 
-fn turn_step(verb: &[u8], words: &mut Words) -> Option<TurnStep> {
-    let step = match verb {
-        b"begin" => TurnStep::Begin,
-        b"commit" => TurnStep::Commit,
-        b"abort" => TurnStep::Abort,
-        b"heads" => TurnStep::Heads { x: words.value() },
-        b"snap" => TurnStep::Snap {
+fn turn_step(verb: TurnVerb, words: &mut Words) -> TurnStep {
+    match verb {
+        TurnVerb::Begin => TurnStep::Begin,
+        TurnVerb::Commit => TurnStep::Commit,
+        TurnVerb::Abort => TurnStep::Abort,
+        TurnVerb::Heads => TurnStep::Heads { x: words.value() },
+        TurnVerb::Snap => TurnStep::Snap {
             number: words.value(),
         },
-        _ => return None,
-    };
-    Some(step)
+    }
 }
 
-fn page_step(verb: &[u8], words: &mut Words) -> Option<PageStep> {
-    let step = match verb {
-        b"take" => PageStep::Take {
+fn page_step(verb: PageVerb, words: &mut Words) -> PageStep {
+    match verb {
+        PageVerb::Take => PageStep::Take {
             count: words.value(),
         },
-        b"free" => PageStep::Free {
+        PageVerb::Free => PageStep::Free {
             page: words.value(),
         },
-        b"grow" => PageStep::Grow {
+        PageVerb::Grow => PageStep::Grow {
             count: words.value(),
         },
-        b"format" => PageStep::Format {
+        PageVerb::Format => PageStep::Format {
             page: words.value(),
             entry: words.value(),
             bucket: words.value(),
             next: words.value(),
         },
-        b"link" => PageStep::Link {
+        PageVerb::Link => PageStep::Link {
             page: words.value(),
             entry: words.value(),
             bucket: words.value(),
         },
-        _ => return None,
-    };
-    Some(step)
+    }
 }
 
 // The kinds of columns by their numbers: 0 an INT, else a text of so many bytes.
@@ -60,29 +61,29 @@ fn kinds(words: &mut Words) -> [Option<Kind>; 7] {
     kinds
 }
 
-fn table_step<'a>(verb: &[u8], words: &mut Words<'a>) -> Option<TableStep<'a>> {
-    let step = match verb {
-        b"create" => TableStep::Create {
+fn table_step<'a>(verb: TableVerb, words: &mut Words<'a>) -> TableStep<'a> {
+    match verb {
+        TableVerb::Create => TableStep::Create {
             name: words.word(),
             kinds: kinds(words),
         },
-        b"drop" => TableStep::Drop {
+        TableVerb::Drop => TableStep::Drop {
             entry: words.value(),
         },
-        b"undo" => TableStep::Undo,
-        b"name" => TableStep::Name {
+        TableVerb::Undo => TableStep::Undo,
+        TableVerb::Name => TableStep::Name {
             name: words.word(),
             own: true,
         },
-        b"others" => TableStep::Name {
+        TableVerb::Others => TableStep::Name {
             name: words.word(),
             own: false,
         },
-        b"changed" => TableStep::Changed {
+        TableVerb::Changed => TableStep::Changed {
             entry: words.value(),
             name: words.word(),
         },
-        b"first" => TableStep::First {
+        TableVerb::First => TableStep::First {
             entry: words.value(),
             bucket: if words.has_more() {
                 Some(words.value())
@@ -90,40 +91,36 @@ fn table_step<'a>(verb: &[u8], words: &mut Words<'a>) -> Option<TableStep<'a>> {
                 None
             },
         },
-        _ => return None,
-    };
-    Some(step)
+    }
 }
 
-fn row_step(verb: &[u8], words: &mut Words) -> Option<RowStep> {
-    let step = match verb {
-        b"put" => RowStep::Put {
+fn row_step(verb: RowVerb, words: &mut Words) -> RowStep {
+    match verb {
+        RowVerb::Put => RowStep::Put {
             entry: words.value(),
             width: words.value(),
             key: words.value(),
         },
-        b"fill" => RowStep::Fill {
+        RowVerb::Fill => RowStep::Fill {
             entry: words.value(),
             width: words.value(),
             from: words.value(),
             count: words.value(),
         },
-        b"find" => RowStep::Find {
+        RowVerb::Find => RowStep::Find {
             entry: words.value(),
             key: words.value(),
         },
-        b"seek" => RowStep::Seek {
+        RowVerb::Seek => RowStep::Seek {
             entry: words.value(),
             from: words.value(),
             count: words.value(),
         },
-        b"room" => RowStep::Room {
+        RowVerb::Room => RowStep::Room {
             entry: words.value(),
             bucket: words.value(),
         },
-        _ => return ruled_step(verb, words),
-    };
-    Some(step)
+    }
 }
 
 // A row that is deleted, by its table, its width and its key.
@@ -137,128 +134,122 @@ fn row(words: &mut Words) -> NewRow {
 }
 
 // Rows that are written and read by the rules of versions.
-fn ruled_step(verb: &[u8], words: &mut Words) -> Option<RowStep> {
-    let step = match verb {
-        b"write" => RowStep::Write(row(words).saying(words.value())),
-        b"delete" => RowStep::Write(row(words)),
-        b"each" => RowStep::Each {
+fn ruled_step(verb: RuleVerb, words: &mut Words) -> RowStep {
+    match verb {
+        RuleVerb::Write => RowStep::Write(row(words).saying(words.value())),
+        RuleVerb::Delete => RowStep::Write(row(words)),
+        RuleVerb::Each => RowStep::Each {
             row: row(words),
             count: words.value(),
         },
-        b"read" => RowStep::Read {
+        RuleVerb::Read => RowStep::Read {
             place: place(words),
             number: words.value(),
             own: false,
         },
-        b"mine" => RowStep::Read {
+        RuleVerb::Mine => RowStep::Read {
             place: place(words),
             number: words.value(),
             own: true,
         },
-        b"newest" => RowStep::Newest {
+        RuleVerb::Newest => RowStep::Newest {
             place: place(words),
         },
-        _ => return None,
-    };
-    Some(step)
+    }
 }
 
-fn version_step(verb: &[u8], words: &mut Words) -> Option<VersionStep> {
-    let step = match verb {
-        b"versions" => VersionStep::Versions {
+fn new_slot(words: &mut Words) -> NewSlot {
+    NewSlot {
+        place: place(words),
+        width: words.value(),
+        key: words.value(),
+        says: words.value(),
+        previous: version(words),
+        older: place(words),
+    }
+}
+
+fn new_entry(words: &mut Words) -> NewEntry {
+    NewEntry {
+        place: place(words),
+        width: words.value(),
+        key: words.value(),
+        version: version(words),
+        older: place(words),
+    }
+}
+
+fn version_step(verb: VersionVerb, words: &mut Words) -> VersionStep {
+    match verb {
+        VersionVerb::Versions => VersionStep::Versions {
             entry: words.value(),
         },
-        b"spare" => VersionStep::Spare {
+        VersionVerb::Spare => VersionStep::Spare {
             entry: words.value(),
         },
-        b"row" => VersionStep::Row {
-            place: place(words),
-            width: words.value(),
-            key: words.value(),
-            says: words.value(),
-            previous: version(words),
-            older: place(words),
-        },
-        b"keep" => VersionStep::Keep {
-            place: place(words),
-            width: words.value(),
-            key: words.value(),
-            version: version(words),
-            older: place(words),
-        },
-        _ => return place_step(verb, words),
-    };
-    Some(step)
+        VersionVerb::Row => VersionStep::Row(new_slot(words)),
+        VersionVerb::Keep => VersionStep::Keep(new_entry(words)),
+    }
 }
 
 // A step on what stands at a place.
-fn place_step(verb: &[u8], words: &mut Words) -> Option<VersionStep> {
-    let step = match verb {
-        b"trim" => VersionStep::Trim {
+fn place_step(verb: PlaceVerb, words: &mut Words) -> VersionStep {
+    match verb {
+        PlaceVerb::Trim => VersionStep::Trim {
             place: place(words),
         },
-        b"revert" => VersionStep::Revert {
+        PlaceVerb::Revert => VersionStep::Revert {
             place: place(words),
         },
-        b"slot" => VersionStep::Slot {
+        PlaceVerb::Slot => VersionStep::Slot {
             place: place(words),
             width: words.value(),
         },
-        b"entry" => VersionStep::Entry {
+        PlaceVerb::Entry => VersionStep::Entry {
             place: place(words),
         },
-        b"lent" => VersionStep::Lent {
+        PlaceVerb::Lent => VersionStep::Lent {
             place: place(words),
         },
-        _ => return None,
-    };
-    Some(step)
+    }
 }
 
-fn outside_step(verb: &[u8], words: &mut Words) -> Option<OutsideStep> {
-    let step = match verb {
-        b"alter" => OutsideStep::Alter {
+fn outside_step(verb: OutsideVerb, words: &mut Words) -> OutsideStep {
+    match verb {
+        OutsideVerb::Alter => OutsideStep::Alter {
             page: words.value(),
             at: words.value(),
             byte: words.value(),
             count: words.value_or(1),
         },
-        b"count" => OutsideStep::Count {
+        OutsideVerb::Count => OutsideStep::Count {
             pages: words.value(),
         },
-        b"cost" => OutsideStep::Cost {
+        OutsideVerb::Cost => OutsideStep::Cost {
             place: place(words),
             number: words.value(),
         },
-        _ => return None,
-    };
-    Some(step)
+    }
 }
 
 // The step of a verb and of the words behind it.
-fn step_by<'a>(verb: &[u8], words: &mut Words<'a>) -> Option<Step<'a>> {
-    if let Some(step) = turn_step(verb, words) {
-        return Some(Step::Turn(step));
+fn step_by<'a>(verb: Verb, words: &mut Words<'a>) -> Step<'a> {
+    match verb {
+        Verb::Turn(verb) => Step::Turn(turn_step(verb, words)),
+        Verb::Page(verb) => Step::Page(page_step(verb, words)),
+        Verb::Table(verb) => Step::Table(table_step(verb, words)),
+        Verb::Row(verb) => Step::Row(row_step(verb, words)),
+        Verb::Rule(verb) => Step::Row(ruled_step(verb, words)),
+        Verb::Version(verb) => Step::Version(version_step(verb, words)),
+        Verb::Place(verb) => Step::Version(place_step(verb, words)),
+        Verb::Outside(verb) => Step::Outside(outside_step(verb, words)),
     }
-    if let Some(step) = page_step(verb, words) {
-        return Some(Step::Page(step));
-    }
-    if let Some(step) = table_step(verb, words) {
-        return Some(Step::Table(step));
-    }
-    if let Some(step) = row_step(verb, words) {
-        return Some(Step::Row(step));
-    }
-    if let Some(step) = version_step(verb, words) {
-        return Some(Step::Version(step));
-    }
-    Some(Step::Outside(outside_step(verb, words)?))
 }
 
 /// The step that a text says. There is none where a word is missing, isn't what it has to be, or stands behind the last one.
 pub fn step_of(text: &[u8]) -> Option<Step> {
     let mut words = Words::new(text);
-    let verb = words.word();
-    let step = step_by(verb, &mut words)?;
+    let verb = verb_of(words.word())?;
+    let step = step_by(verb, &mut words);
     if words.are_right() { Some(step) } else { None }
 }

@@ -113,7 +113,9 @@ fn bodies_of(alloc: Global, store: Mem, asked: Option<(Place, &Snapshot)>) -> Op
 {
     let mut store = store;
     let done = read_apart(alloc, &mut store, asked);
-    let bodies = bodies_read(&store.into_disk().disk);
+    let disk = store.into_disk();
+    let bodies = bodies_read(&disk.disk);
+    drop(disk);
     if done { Some(bodies) } else { None }
 }
 

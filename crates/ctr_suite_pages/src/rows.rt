@@ -1,6 +1,7 @@
 // Steps on rows.
-ghost use Rattle.std.specs.Prelude.{◌≡◌, ◌≤◌, ◌<◌, ◌+◌, false, IsTrue, IfSome, OnOk};
+ghost use Rattle.std.specs.Prelude.{◌≡◌, ◌≤◌, ◌<◌, ◌+◌, ℕ, false, IsTrue, IfSome, OnOk};
 ghost use Rattle.ctr_page.specs.Places.{start_of, slot_size as size_of_slot};
+ghost use Rattle.ctr_page.specs.Making.{IsVersion, IsPrevious, IsSlot};
 ghost use Rattle.ctr_walk.specs.Tables.{IsChain};
 
 use crate::pages::{make_empty, put_in_front, rows_header, take};
@@ -26,7 +27,59 @@ pub fn lies(place: Place, width: usize) -> bool
     16 + place.slot as usize * size + size <= 4_096
 }
 
-/// A slot of a key and zeros, which replaces that of the same transaction, or none.
+/// A version of a transaction, of the first of these bytes.
+pub fn version_of<'a>(x: u64, width: usize, bytes: &'a [u8; WIDEST]) -> Version<'a>
+    requires { width ≤ WIDEST }
+    ensures fits { IsVersion width result }
+    ensures own { result.xid ≡ x }
+{
+    Version {
+        xid: x,
+        tombstone: Tombstone::NONE,
+        payload: Bytes::new(&bytes[..width]),
+    }
+}
+
+/// A slot of a row.
+pub fn slot_of<'a>(
+    key: i64,
+    head: Version<'a>,
+    previous: Option<Version<'a>>,
+    older: Place,
+) -> RowSlot<'a>
+    ensures fits { (w : ℕ) → IsVersion w head.entry → IsPrevious w previous.entry → IsSlot w result }
+{
+    RowSlot {
+        used: Use::USED,
+        key,
+        head,
+        previous,
+        older,
+    }
+}
+
+/// Lays a slot so wide at a place, where that may be; whether it did.
+pub fn lay_slot(
+    store: &mut Mem,
+    x: u64,
+    over: u64,
+    place: Place,
+    width: usize,
+    slot: &RowSlot,
+) -> Result<bool, StoreFault>
+    requires going { store.old.stopped ≡ false }
+    requires slot { IsSlot width slot.now }
+    requires lies { (width ≤ WIDEST) × (start_of (size_of_slot width) place.slot + size_of_slot width ≤ 4096) }
+    ensures going { OnOk result (store.new.stopped ≡ false) }
+{
+    if !ready(store, 0, 0)? || place.page >= store.counted() {
+        return Ok(false);
+    }
+    put_slot(store, x, over, place, slot)?;
+    Ok(true)
+}
+
+// A slot of a key and zeros, which replaces that of the same transaction, or none.
 fn lay(
     store: &mut Mem,
     x: u64,
@@ -38,26 +91,20 @@ fn lay(
     requires going { store.old.stopped ≡ false }
     ensures going { OnOk result (store.new.stopped ≡ false) }
 {
+    if !lies(place, width) {
+        return Ok(Told::NotAsked);
+    }
     let zeros = [0; WIDEST];
-    if !lies(place, width) || !ready(store, 0, 0)? {
-        return Ok(Told::NotAsked);
-    }
-    if place.page >= store.counted() {
-        return Ok(Told::NotAsked);
-    }
-    let slot = RowSlot {
-        used: Use::USED,
+    let slot = slot_of(
         key,
-        head: Version {
-            xid: x,
-            tombstone: Tombstone::NONE,
-            payload: Bytes::new(&zeros[..width]),
-        },
-        previous: None,
-        older: Place { page: 0, slot: 0 },
-    };
-    put_slot(store, x, over, place, &slot)?;
-    Ok(Told::At(place))
+        version_of(x, width, &zeros),
+        None,
+        Place { page: 0, slot: 0 },
+    );
+    match lay_slot(store, x, over, place, width, &slot)? {
+        true => Ok(Told::At(place)),
+        false => Ok(Told::NotAsked),
+    }
 }
 
 /// The slot of a key.
@@ -189,8 +236,8 @@ pub fn fill(
     fill(store, x, entry, width, from.wrapping_add(1), count - 1)
 }
 
-/// How many of so many keys are found, from one on, behind some that were.
-pub fn seek(store: &mut Mem, entry: u8, from: i64, count: u64, some: u64) -> Result<u64, StoreFault>
+// How many of so many keys are found, from one on, behind some that were.
+fn seek(store: &mut Mem, entry: u8, from: i64, count: u64, some: u64) -> Result<u64, StoreFault>
     requires going { store.old.stopped ≡ false }
     ensures going { OnOk result (store.new.stopped ≡ false) }
 {
@@ -208,4 +255,13 @@ pub fn seek(store: &mut Mem, entry: u8, from: i64, count: u64, some: u64) -> Res
         count - 1,
         some.wrapping_add(is),
     )
+}
+
+/// How many of so many keys are found, from one on.
+pub fn sought(store: &mut Mem, entry: u8, from: i64, count: u64) -> Result<Told, StoreFault>
+    requires going { store.old.stopped ≡ false }
+    ensures going { OnOk result (store.new.stopped ≡ false) }
+{
+    let some = seek(store, entry, from, count, 0)?;
+    Ok(Told::Of(some, count))
 }

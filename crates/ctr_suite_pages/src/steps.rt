@@ -1,5 +1,5 @@
 // The steps of a case. Each of their calls is of one crate.
-use crate::told::Seen;
+use crate::versions::{NewEntry, NewSlot};
 use crate::writes::NewRow;
 use ctr_page::Place;
 use ctr_types::Kind;
@@ -145,51 +145,23 @@ pub enum RowStep {
 #[derive(Clone, Copy)]
 pub enum VersionStep {
     /// A page more for the versions of a table.
-    Versions {
-        entry: u8,
-    },
+    Versions { entry: u8 },
     /// A search for a version entry that isn't used.
-    Spare {
-        entry: u8,
-    },
+    Spare { entry: u8 },
     /// `put_slot` of a row.
-    Row {
-        place: Place,
-        width: usize,
-        key: i64,
-        says: u8,
-        previous: Seen,
-        older: Place,
-    },
+    Row(NewSlot),
     /// `keep`.
-    Keep {
-        place: Place,
-        width: usize,
-        key: i64,
-        version: Seen,
-        older: Place,
-    },
+    Keep(NewEntry),
     /// A version entry is free again.
-    Trim {
-        place: Place,
-    },
+    Trim { place: Place },
     /// `revert_row`.
-    Revert {
-        place: Place,
-    },
+    Revert { place: Place },
     /// What stands in a slot.
-    Slot {
-        place: Place,
-        width: usize,
-    },
+    Slot { place: Place, width: usize },
     /// `version`.
-    Entry {
-        place: Place,
-    },
+    Entry { place: Place },
     /// `row`.
-    Lent {
-        place: Place,
-    },
+    Lent { place: Place },
 }
 
 /// What is done while the database isn't open. It is opened again behind that.

@@ -92,5 +92,6 @@ pub fn play_suite(player: &mut Player, suite: &[u8]) {
         reader.take_line(line.trim_ascii(), player);
     }
     reader.end_case(player);
+    drop(reader);
     player.page.end();
 }

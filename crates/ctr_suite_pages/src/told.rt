@@ -3,6 +3,7 @@ use ctr_disk::StoreFault;
 use ctr_page::Place;
 use ctr_types::{Damage, File};
 use std::alloc::{AllocError, Global};
+use std::fmt;
 
 /// A version: whose it is, and its first byte.
 #[derive(Clone, Copy)]
@@ -47,27 +48,47 @@ pub enum Told {
     Fault(StoreFault),
 }
 
+impl fmt::Display for Seen {
+    fn fmt<W: fmt::Write>(&self, f: &mut fmt::Formatter<W>) -> fmt::Result {
+        write!(f, "{}={}", self.x, self.says)
+    }
+}
+
+// A place, as it is printed.
+#[derive(Clone, Copy)]
+struct At(Place);
+
+impl fmt::Display for At {
+    fn fmt<W: fmt::Write>(&self, f: &mut fmt::Formatter<W>) -> fmt::Result {
+        write!(f, "{}.{}", self.0.page, self.0.slot)
+    }
+}
+
 impl Told {
+    // What says no number.
+    fn word(self) -> &'static str {
+        match self {
+            Told::Done => "done",
+            Told::NotAsked => "not asked",
+            Told::NotOpened => "not opened",
+            Told::Grow => "grow",
+            Told::Full => "full",
+            Told::CatalogFull => "catalog full",
+            Told::NoMemory => "no memory",
+            Told::None => "none",
+            Told::Unused => "unused",
+            _ => "",
+        }
+    }
+
     /// It in words.
     pub fn text(self, alloc: Global) -> Result<String, AllocError> {
         match self {
-            Told::Done => format!(in alloc; "done"),
-            Told::NotAsked => format!(in alloc; "not asked"),
-            Told::NotOpened => format!(in alloc; "not opened"),
             Told::Number(n) => format!(in alloc; "{n}"),
             Told::Of(some, all) => format!(in alloc; "{some} of {all}"),
-            Told::Grow => format!(in alloc; "grow"),
-            Told::Full => format!(in alloc; "full"),
-            Told::CatalogFull => format!(in alloc; "catalog full"),
-            Told::At(place) => format!(in alloc; "{}.{}", place.page, place.slot),
-            Told::Keeps { at, kept } => format!(in alloc;
-                "{}.{} keeps {}.{}",
-                at.page, at.slot, kept.page, kept.slot
-            ),
+            Told::At(place) => format!(in alloc; "{}", At(place)),
+            Told::Keeps { at, kept } => format!(in alloc; "{} keeps {}", At(at), At(kept)),
             Told::Value(value) => format!(in alloc; "{value}"),
-            Told::NoMemory => format!(in alloc; "no memory"),
-            Told::None => format!(in alloc; "none"),
-            Told::Unused => format!(in alloc; "unused"),
             Told::Row {
                 key,
                 head,
@@ -75,6 +96,7 @@ impl Told {
                 older,
             } => row_text(alloc, key, head, previous, older),
             Told::Fault(fault) => fault_text(alloc, fault),
+            _ => format!(in alloc; "{}", self.word()),
         }
     }
 }
@@ -87,15 +109,10 @@ fn row_text(
     previous: Option<Seen>,
     older: Place,
 ) -> Result<String, AllocError> {
+    let older = At(older);
     match previous {
-        None => format!(in alloc;
-            "{key} is {}={} then {}.{}",
-            head.x, head.says, older.page, older.slot
-        ),
-        Some(before) => format!(in alloc;
-            "{key} is {}={} before {}={} then {}.{}",
-            head.x, head.says, before.x, before.says, older.page, older.slot
-        ),
+        None => format!(in alloc; "{key} is {head} then {older}"),
+        Some(before) => format!(in alloc; "{key} is {head} before {before} then {older}"),
     }
 }
 

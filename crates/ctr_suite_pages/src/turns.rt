@@ -89,13 +89,21 @@ pub fn abort(store: &mut Mem, x: u64) -> Result<Told, StoreFault>
     Ok(Told::Done)
 }
 
-/// A snapshot of what is committed now.
-pub fn snap(alloc: Global, store: &Mem) -> Result<Snapshot, OutOfMemory> {
-    let mut open = Vec::new(alloc);
+// Adds the transactions that are open.
+fn add_open(open: &mut Vec<u64>, store: &Mem, alloc: Global) -> Result<(), OutOfMemory> {
     for (xid, _heads) in store.meta().opens(alloc)?.iter() {
         open.push(*xid)?;
     }
-    Snapshot::take(alloc, store.meta().next(), &open)
+    Ok(())
+}
+
+/// A snapshot of what is committed now.
+pub fn snap(alloc: Global, store: &Mem) -> Result<Snapshot, OutOfMemory> {
+    let mut open = Vec::new(alloc);
+    add_open(&mut open, store, alloc)?;
+    let snapshot = Snapshot::take(alloc, store.meta().next(), &open);
+    drop(open);
+    snapshot
 }
 
 // Writes all pages home, at most so many.

@@ -1,18 +1,16 @@
 // Rows that are written by the rules of versions: what must be kept is kept first.
-ghost use Rattle.std.specs.Prelude.{◌≡◌, ◌≤◌, ◌<◌, ◌+◌, Bool, false, IsTrue, IfOk, OnOk};
-ghost use Rattle.ctr_walk.specs.OneRecord.{HasRoomForOne};
+ghost use Rattle.std.specs.Prelude.{◌≡◌, ◌≤◌, ◌<◌, ◌+◌, Bool, false, OnOk};
 ghost use Rattle.ctr_page.specs.Places.{start_of, slot_size as size_of_slot};
 ghost use Rattle.ctr_page.specs.Making.{IsVersion, IsSlot, IsEntry};
 ghost use Rattle.ctr_heap.specs.Ways.{IsWay};
 
-use crate::rows::{WIDEST, found, lies, place_for};
+use crate::rows::{WIDEST, found, lay_slot, lies, place_for};
 use crate::told::Told;
-use crate::turns::{Mem, begin, commit, ready};
-use crate::versions::{add_page, entry_lies, payload, spare};
+use crate::turns::{Mem, begin, commit};
+use crate::versions::{add_page, entry_lies, keep_at, payload, spare};
 use ctr_disk::StoreFault;
-use ctr_heap::{Way, first, put_slot, replaced, to_keep, way_of, written};
+use ctr_heap::{Way, first, replaced, to_keep, way_of, written};
 use ctr_page::{Place, RowSlot, Tombstone, Version, VersionEntry, read_slot};
-use ctr_pvs::keep;
 use ctr_rec::Bytes;
 use ctr_types::Fate;
 
@@ -58,20 +56,6 @@ fn version_by<'a>(x: u64, row: NewRow, bytes: &'a [u8; WIDEST]) -> Version<'a>
     }
 }
 
-// Whether a transaction may lay a slot so wide at a place.
-fn may_lay(store: &mut Mem, x: u64, place: Place, width: usize) -> Result<bool, StoreFault>
-    requires going { store.old.stopped ≡ false }
-    ensures going { OnOk result (store.new.stopped ≡ false) }
-    ensures room { IfOk result (λ is. IsTrue is → HasRoomForOne 0 0 store.new) }
-    ensures place { IfOk result (λ is. IsTrue is → place.page < store.new.now.counted) }
-    ensures lies { IfOk result (λ is. IsTrue is → (width ≤ WIDEST) × (start_of (size_of_slot width) place.slot + size_of_slot width ≤ 4096)) }
-{
-    if !lies(place, width) || !ready(store, 0, 0)? {
-        return Ok(false);
-    }
-    Ok(place.page < store.counted())
-}
-
 // A version entry that isn't used, on a page more where there is none.
 fn entry_for(store: &mut Mem, x: u64, entry: u8) -> Result<Told, StoreFault>
     requires going { store.old.stopped ≡ false }
@@ -102,14 +86,10 @@ fn keep_first(
         Told::At(place) => place,
         other => return Ok(other),
     };
-    if !entry_lies(place, row.width) || !ready(store, 0, 0)? {
-        return Ok(Told::NotAsked);
+    if entry_lies(place, row.width) && keep_at(store, x, place, row.width, version)? {
+        return Ok(Told::At(place));
     }
-    if place.page >= store.counted() {
-        return Ok(Told::NotAsked);
-    }
-    keep(store, x, place, version)?;
-    Ok(Told::At(place))
+    Ok(Told::NotAsked)
 }
 
 // The bytes of a page, for a slot that is read from them while others change.
@@ -133,17 +113,17 @@ fn put_over(
     kept: Place,
 ) -> Result<Told, StoreFault>
     requires going { store.old.stopped ≡ false }
+    requires lies { (row.width ≤ WIDEST) × (start_of (size_of_slot row.width) place.slot + size_of_slot row.width ≤ 4096) }
     requires slot { IsSlot row.width slot × (0 < slot.head.xid) }
     requires way { (committed : Bool) × IsWay committed slot way }
     ensures going { OnOk result (store.new.stopped ≡ false) }
 {
-    if !may_lay(store, x, place, row.width)? {
-        return Ok(Told::NotAsked);
-    }
     let over = replaced(way, &slot);
     let bytes = bytes_of(row);
     let slot = written(way, kept, slot, version_by(x, row, &bytes));
-    put_slot(store, x, over, place, &slot)?;
+    if !lay_slot(store, x, over, place, row.width, &slot)? {
+        return Ok(Told::NotAsked);
+    }
     if kept.page == 0 {
         return Ok(Told::At(place));
     }
@@ -183,13 +163,15 @@ fn write_first(store: &mut Mem, x: u64, row: NewRow) -> Result<Told, StoreFault>
         Told::At(place) => place,
         other => return Ok(other),
     };
-    if !may_lay(store, x, place, row.width)? {
+    if !lies(place, row.width) {
         return Ok(Told::NotAsked);
     }
     let bytes = bytes_of(row);
     let slot = first(row.key, version_by(x, row, &bytes));
-    put_slot(store, x, 0, place, &slot)?;
-    Ok(Told::At(place))
+    match lay_slot(store, x, 0, place, row.width, &slot)? {
+        true => Ok(Told::At(place)),
+        false => Ok(Told::NotAsked),
+    }
 }
 
 /// Writes the row of a key, over the one that is there, in a free slot or on a page more: its place, and where a version was kept first.

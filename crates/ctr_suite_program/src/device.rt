@@ -47,6 +47,22 @@ fn write(disk: &mut MemDisk, page: &mut Page, file: File, at: u64, bytes: &[u8])
     }
 }
 
+fn write_hex(
+    alloc: Global,
+    disk: &mut MemDisk,
+    page: &mut Page,
+    file: File,
+    at: u64,
+    digits: &[u8],
+) -> Result<Option<()>, AllocError> {
+    let Some(bytes) = hex_bytes(alloc, digits)? else {
+        return Ok(None);
+    };
+    write(disk, page, file, at, &bytes);
+    drop(bytes);
+    Ok(Some(()))
+}
+
 // A call on a file: `size FILE`, `read FILE FROM LENGTH` or `write FILE FROM BYTES`. None where it is none.
 fn call_on_file(
     alloc: Global,
@@ -72,10 +88,7 @@ fn call_on_file(
         }
     }
     if word == b"write".as_slice() {
-        if let Some(bytes) = hex_bytes(alloc, rest)? {
-            write(disk, page, file, at, &bytes);
-            return Ok(Some(()));
-        }
+        return write_hex(alloc, disk, page, file, at, rest);
     }
     Ok(None)
 }
@@ -131,13 +144,17 @@ fn ended(alloc: Global, disk: &MemDisk, page: &Page, ask: Ask) -> Result<Ran, Al
 /// Makes the calls that the script lists.
 pub fn play_calls(alloc: Global, setup: &Setup, ask: Ask) -> Result<Ran, AllocError> {
     let mut disk = disk_of(alloc, setup)?;
-    calls_on(alloc, &mut disk, &setup.script, ask)
+    let ran = calls_on(alloc, &mut disk, &setup.script, ask);
+    drop(disk);
+    ran
 }
 
 fn calls_on(alloc: Global, disk: &mut MemDisk, script: &[u8], ask: Ask) -> Result<Ran, AllocError> {
     let mut page = Page::new(alloc);
     make_calls(alloc, disk, &mut page, script)?;
-    ended(alloc, disk, &page, ask)
+    let ran = ended(alloc, disk, &page, ask);
+    drop(page);
+    ran
 }
 
 // Writes a root whose stamp is above that of the root that is there.
@@ -156,11 +173,15 @@ fn write_above(disk: &mut MemDisk, page: &mut Page, root: &Root) {
 /// Writes the root.
 pub fn play_root(alloc: Global, setup: &Setup, root: Root, ask: Ask) -> Result<Ran, AllocError> {
     let mut disk = disk_of(alloc, setup)?;
-    root_on(alloc, &mut disk, &root, ask)
+    let ran = root_on(alloc, &mut disk, &root, ask);
+    drop(disk);
+    ran
 }
 
 fn root_on(alloc: Global, disk: &mut MemDisk, root: &Root, ask: Ask) -> Result<Ran, AllocError> {
     let mut page = Page::new(alloc);
     write_above(disk, &mut page, root);
-    ended(alloc, disk, &page, ask)
+    let ran = ended(alloc, disk, &page, ask);
+    drop(page);
+    ran
 }

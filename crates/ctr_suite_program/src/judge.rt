@@ -19,7 +19,9 @@ use std::alloc::Global;
 // The script that bytes are. What is none is an empty one: no tape comes of it.
 fn script_of(alloc: Global, bytes: &[u8]) -> Result<Script, OutOfMemory> {
     let mut source = MemSource::new(Text::from_slice(alloc, bytes)?, List::new(alloc));
-    Ok(script_in(alloc, &mut source))
+    let script = script_in(alloc, &mut source);
+    drop(source);
+    Ok(script)
 }
 
 fn script_in(alloc: Global, source: &mut MemSource) -> Script {
@@ -62,7 +64,9 @@ fn is_led_from(
     entries: &[Entry],
 ) -> Result<bool, OutOfMemory> {
     let mut point = starting(alloc, base.copy(alloc)?, copied(alloc, stuck)?);
-    is_led(alloc, lines, &mut point, entries)
+    let led = is_led(alloc, lines, &mut point, entries);
+    drop(point);
+    led
 }
 
 fn add_copies(alloc: Global, list: &mut Vec<Name>, names: &[Name]) -> Result<(), OutOfMemory> {
@@ -104,12 +108,16 @@ fn held_before(alloc: Global, setup: &Setup, ran: &Ran) -> Result<Vec<Name>, Out
         return released_in(alloc, &ran.tape);
     }
     let idle = plain_run(alloc, &setup.image, &[])?;
-    released_by(alloc, &idle)
+    let names = released_by(alloc, &idle);
+    drop(idle);
+    names
 }
 
 fn released_by(alloc: Global, setup: &Setup) -> Result<Vec<Name>, OutOfMemory> {
     let ran = play(alloc, setup, Ask::Last)?;
-    released_in(alloc, &ran.tape)
+    let names = released_in(alloc, &ran.tape);
+    drop(ran);
+    names
 }
 
 /// How many commits were answered by a moment.
@@ -132,8 +140,22 @@ pub fn led_from(
     ran: &Ran,
 ) -> Result<Option<Right>, OutOfMemory> {
     let stuck = held_before(alloc, setup, ran)?;
+    let led = led_with(alloc, right, &stuck, setup, ran);
+    drop(stuck);
+    led
+}
+
+fn led_with(
+    alloc: Global,
+    right: &Right,
+    stuck: &[Name],
+    setup: &Setup,
+    ran: &Ran,
+) -> Result<Option<Right>, OutOfMemory> {
     let script = script_of(alloc, &setup.script)?;
-    led_by(alloc, right, &stuck, script.lines.as_slice(), ran)
+    let led = led_by(alloc, right, stuck, script.lines.as_slice(), ran);
+    drop(script);
+    led
 }
 
 fn led_by(
@@ -162,7 +184,9 @@ fn right_after(
     ran: &Ran,
 ) -> Result<Option<Right>, OutOfMemory> {
     let mut point = starting(alloc, base.copy(alloc)?, copied(alloc, stuck)?);
-    right_at(alloc, lines, &mut point, ran)
+    let right = right_at(alloc, lines, &mut point, ran);
+    drop(point);
+    right
 }
 
 fn right_at(
@@ -217,6 +241,15 @@ const UNDO_TURNS: usize = 200;
 /// The frames of the run that looks at an image.
 const FEW_FRAMES: u64 = 8;
 
+// The run of a probe on an image.
+fn looking(alloc: Global, probe: &Probe, image: &Image) -> Result<Setup, OutOfMemory> {
+    let script = probe.bytes.to_vec(alloc)?;
+    let undo = vec![in alloc; Actor::Undo; UNDO_TURNS]?;
+    let mut setup = plain_turns(alloc, image, script, undo)?;
+    setup.frames = FEW_FRAMES;
+    Ok(setup)
+}
+
 /// What a run finds in an image, and a report of it.
 pub fn found_in(
     alloc: Global,
@@ -224,18 +257,18 @@ pub fn found_in(
     probe: &Probe,
     image: &Image,
 ) -> Result<Found, OutOfMemory> {
-    let script = probe.bytes.to_vec(alloc)?;
-    let undo = vec![in alloc; Actor::Undo; UNDO_TURNS]?;
-    let mut setup = plain_turns(alloc, image, script, undo)?;
-    setup.frames = FEW_FRAMES;
-    let found = found_by(alloc, right, probe, &setup)?;
-    reported(alloc, right, image, found)
+    let setup = looking(alloc, probe, image)?;
+    let found = found_by(alloc, right, probe, &setup);
+    drop(setup);
+    reported(alloc, right, image, found?)
 }
 
 /// What a run finds in an image, with a probe of its own.
 pub fn found_alone(alloc: Global, right: &Right, image: &Image) -> Result<Found, OutOfMemory> {
     let probe = Probe::new(alloc, right)?;
-    found_in(alloc, right, &probe, image)
+    let found = found_in(alloc, right, &probe, image);
+    drop(probe);
+    found
 }
 
 fn found_by(
@@ -245,7 +278,9 @@ fn found_by(
     setup: &Setup,
 ) -> Result<Found, OutOfMemory> {
     let ran = play(alloc, setup, Ask::Last)?;
-    fitting(alloc, right, probe.script.lines.as_slice(), &ran)
+    let found = fitting(alloc, right, probe.script.lines.as_slice(), &ran);
+    drop(ran);
+    found
 }
 
 fn fitting(alloc: Global, right: &Right, lines: &[Line], ran: &Ran) -> Result<Found, OutOfMemory> {
@@ -253,7 +288,9 @@ fn fitting(alloc: Global, right: &Right, lines: &[Line], ran: &Ran) -> Result<Fo
         return Ok(Found::Status(ran.status));
     }
     let stuck = released_in(alloc, &ran.tape)?;
-    fitting_from(alloc, right, &stuck, lines, ran.tape.entries.as_slice())
+    let found = fitting_from(alloc, right, &stuck, lines, ran.tape.entries.as_slice());
+    drop(stuck);
+    found
 }
 
 fn fitting_from(
@@ -280,7 +317,9 @@ fn reported(
     found: Found,
 ) -> Result<Found, OutOfMemory> {
     let setup = plain_report(alloc, image)?;
-    told_by(alloc, right, &setup, found)
+    let told = told_by(alloc, right, &setup, found);
+    drop(setup);
+    told
 }
 
 fn told_by(
@@ -290,11 +329,9 @@ fn told_by(
     found: Found,
 ) -> Result<Found, OutOfMemory> {
     let ran = play(alloc, setup, Ask::Last)?;
-    if is_told(right, &ran, found) {
-        Ok(found)
-    } else {
-        Ok(Found::Other)
-    }
+    let told = is_told(right, &ran, found);
+    drop(ran);
+    if told { Ok(found) } else { Ok(Found::Other) }
 }
 
 fn is_told(right: &Right, ran: &Ran, found: Found) -> bool {

@@ -178,7 +178,9 @@ fn is_stopped_well(
     digits: u64,
 ) -> Result<bool, OutOfMemory> {
     let stopped = play(alloc, setup, Ask::Stop(calls, digits))?;
-    is_found(alloc, setup, right, ran, probe, &stopped, calls as usize)
+    let found = is_found(alloc, setup, right, ran, probe, &stopped, calls as usize);
+    drop(stopped);
+    found
 }
 
 // Whether the image of a run holds as many commits as are owed after so many calls.
@@ -210,7 +212,9 @@ fn judge_left(
     maker: &mut Maker,
 ) -> Result<Option<Fault>, OutOfMemory> {
     let probe = Probe::new(alloc, right)?;
-    match is_left_well(alloc, setup, right, ran, &probe, maker) {
+    let left = is_left_well(alloc, setup, right, ran, &probe, maker);
+    drop(probe);
+    match left {
         Ok(true) => Ok(None),
         Ok(false) => Ok(Some(Fault::OtherRows)),
         Err(error) => Err(error),
@@ -231,7 +235,11 @@ fn judge_ran(
     }
     match led_from(alloc, before, setup, ran)? {
         None => Ok(Some(Fault::Illegal)),
-        Some(right) => judge_left(alloc, setup, &right, ran, maker),
+        Some(right) => {
+            let fault = judge_left(alloc, setup, &right, ran, maker);
+            drop(right);
+            fault
+        }
     }
 }
 
@@ -243,7 +251,9 @@ fn judge_setup(
     met: &mut Met,
 ) -> Result<Option<Fault>, OutOfMemory> {
     let ran = play(alloc, setup, Ask::Last)?;
-    judge_ran(alloc, setup, before, &ran, maker, met)
+    let fault = judge_ran(alloc, setup, before, &ran, maker, met);
+    drop(ran);
+    fault
 }
 
 // Plays what is made over a disk.
@@ -257,7 +267,9 @@ fn play_made(
     let script = maker.script()?;
     let mut setup = plain_turns(alloc, image, script, maker.actors()?)?;
     setup.frames = maker.frames();
-    judge_setup(alloc, &setup, before, maker, met)
+    let fault = judge_setup(alloc, &setup, before, maker, met);
+    drop(setup);
+    fault
 }
 
 /// Plays the script of a number over a disk, by its list of actors, and judges it: the tape is legal, the run is
@@ -271,7 +283,9 @@ pub fn meet(
     page: &mut Page,
 ) -> Result<(), OutOfMemory> {
     let mut maker = Maker::new(alloc, number);
-    match play_made(alloc, image, before, &mut maker, met) {
+    let fault = play_made(alloc, image, before, &mut maker, met);
+    drop(maker);
+    match fault {
         Ok(None) => Ok(()),
         Ok(Some(fault)) => {
             tell(alloc, page, met, number, fault);

@@ -48,15 +48,22 @@ pub fn numbers(alloc: Global, words: &[u8]) -> Result<Option<Vec<u64>>, AllocErr
     numbers_in(alloc, words, 10)
 }
 
+fn add_bytes(bytes: &mut Vec<u8>, list: &[u64]) -> Result<(), AllocError> {
+    for number in list {
+        bytes.push((*number % 256) as u8)?;
+    }
+    Ok(())
+}
+
 /// Bytes, each by its digits in base 16; None where a word is none.
 pub fn hex_bytes(alloc: Global, words: &[u8]) -> Result<Option<Vec<u8>>, AllocError> {
     let Some(list) = numbers_in(alloc, words, 16)? else {
         return Ok(None);
     };
     let mut bytes = Vec::new(alloc);
-    for number in list.iter() {
-        bytes.push((*number % 256) as u8)?;
-    }
+    let added = add_bytes(&mut bytes, &list);
+    drop(list);
+    added?;
     Ok(Some(bytes))
 }
 
@@ -71,15 +78,23 @@ pub fn filling(alloc: Global, words: &[u8]) -> Result<Option<Vec<u8>>, AllocErro
     }
 }
 
-fn numbers_in(alloc: Global, words: &[u8], base: u64) -> Result<Option<Vec<u64>>, AllocError> {
-    let mut list = Vec::new(alloc);
+// Adds the numbers of words; whether each word is one.
+fn add_numbers(list: &mut Vec<u64>, words: &[u8], base: u64) -> Result<bool, AllocError> {
     for word in words.split(|byte| *byte == b' ') {
         match number_in(word, base) {
             Some(number) => list.push(number)?,
-            None => return Ok(None),
+            None => return Ok(false),
         }
     }
-    Ok(Some(list))
+    Ok(true)
+}
+
+fn numbers_in(alloc: Global, words: &[u8], base: u64) -> Result<Option<Vec<u64>>, AllocError> {
+    let mut list = Vec::new(alloc);
+    match add_numbers(&mut list, words, base)? {
+        true => Ok(Some(list)),
+        false => Ok(None),
+    }
 }
 
 /// The file of this name.

@@ -1,6 +1,7 @@
 // Plays the lines of a suite.
 use crate::databases::Right;
 use crate::judge::{Found, found_alone, led_from};
+use crate::lists::set;
 use crate::meetings::{Met, meet};
 use crate::numbers::{filling, hex_bytes, name_of, number, numbers, split_file, split_number};
 use crate::page::Page;
@@ -13,7 +14,7 @@ use crate::sweep::{NO_DATABASE, sweep_failures, sweep_stops};
 use crate::words::{actors_in, root_of, words_in};
 use ctr_mem_disk::Image;
 use ctr_suite::{Plays, split_word};
-use ctr_types::{OutOfMemory, Plain, Reply};
+use ctr_types::{File, OutOfMemory, Plain, Reply};
 use std::alloc::Global;
 use std::mem;
 
@@ -104,12 +105,10 @@ impl Player {
                 return self.on_file(step, rest);
             }
             Step::After => return self.go_on_after(rest),
-            Step::Calls => self.list_calls()?,
             Step::Counts => self.counts.put(self.alloc, &mut self.page),
-            Step::Answers => self.put_answers()?,
-            Step::Holds => self.put_found()?,
-            Step::Stops => self.sweep_stops()?,
-            Step::Failures => self.sweep_failures()?,
+            Step::Calls | Step::Answers | Step::Holds | Step::Stops | Step::Failures => {
+                self.look(step)?;
+            }
             Step::Record | Step::Cuts => return self.read_record(step, rest),
             Step::Generated => return self.meet_generated(rest),
             _ => return self.set_fault(step, rest),
@@ -117,15 +116,32 @@ impl Player {
         Ok(Some(()))
     }
 
+    // What is asked of the last run, or of the disk.
+    fn look(&mut self, step: Step) -> Result<(), OutOfMemory> {
+        match step {
+            Step::Calls => self.list_calls(),
+            Step::Answers => self.put_answers(),
+            Step::Holds => self.put_found(),
+            Step::Stops => self.sweep_stops(),
+            _ => self.sweep_failures(),
+        }
+    }
+
     fn begin_case(&mut self, rest: &[u8]) {
         self.page.put(b"\ncase ");
         self.page.put(rest);
         self.page.put(b"\n");
-        self.image = Image::new(self.alloc);
-        self.next = Setup::new(self.alloc, Image::new(self.alloc));
-        self.last = Setup::new(self.alloc, Image::new(self.alloc));
-        self.right = Right::nothing(self.alloc);
-        self.before = Right::nothing(self.alloc);
+        set(&mut self.image, Image::new(self.alloc));
+        set(
+            &mut self.next,
+            Setup::new(self.alloc, Image::new(self.alloc)),
+        );
+        set(
+            &mut self.last,
+            Setup::new(self.alloc, Image::new(self.alloc)),
+        );
+        set(&mut self.right, Right::nothing(self.alloc));
+        set(&mut self.before, Right::nothing(self.alloc));
         self.brief = false;
         self.judged = true;
     }
@@ -182,44 +198,59 @@ impl Player {
         let Some((place, rest)) = split_number(rest) else {
             return Ok(None);
         };
-        if step == Step::Length {
-            self.image.set_len(self.alloc, file, place)?;
-            return Ok(Some(()));
+        match step {
+            Step::Length => self.set_length(file, place),
+            Step::Show => Ok(self.show(file, place, rest)),
+            Step::Fill => self.write(file, place, filling(self.alloc, rest)?),
+            _ => self.write(file, place, hex_bytes(self.alloc, rest)?),
         }
-        if step == Step::Show {
-            let Some(to) = number(rest) else {
-                return Ok(None);
-            };
-            self.page.put(name_of(file).as_bytes());
-            let bytes = self.image.file(file);
-            self.page.put_part(self.alloc, bytes, place, to);
-            self.page.put(b"\n");
-            return Ok(Some(()));
-        }
-        let with = if step == Step::Fill {
-            filling(self.alloc, rest)?
-        } else {
-            hex_bytes(self.alloc, rest)?
-        };
+    }
+
+    fn set_length(&mut self, file: File, length: u64) -> Result<Option<()>, OutOfMemory> {
+        self.image.set_len(self.alloc, file, length)?;
+        Ok(Some(()))
+    }
+
+    fn show(&mut self, file: File, from: u64, rest: &[u8]) -> Option<()> {
+        let to = number(rest)?;
+        self.page.put(name_of(file).as_bytes());
+        let bytes = self.image.file(file);
+        self.page.put_part(self.alloc, bytes, from, to);
+        self.page.put(b"\n");
+        Some(())
+    }
+
+    fn write(
+        &mut self,
+        file: File,
+        place: u64,
+        with: Option<Vec<u8>>,
+    ) -> Result<Option<()>, OutOfMemory> {
         let Some(with) = with else {
             return Ok(None);
         };
-        self.image.write(self.alloc, file, place, &with)?;
+        let written = self.image.write(self.alloc, file, place, &with);
+        drop(with);
+        written?;
         Ok(Some(()))
     }
 
     fn run(&mut self) -> Result<(), OutOfMemory> {
         self.begin_last()?;
         let ran = play(self.alloc, &self.last, Ask::Last)?;
-        self.take_run(&ran)
+        let taken = self.take_run(&ran);
+        drop(ran);
+        taken
     }
 
     // The run that waited becomes the last one.
     fn begin_last(&mut self) -> Result<(), OutOfMemory> {
         let next = Setup::new(self.alloc, Image::new(self.alloc));
-        self.last = mem::replace(&mut self.next, next);
-        self.last.image = self.image.copy()?;
-        self.before = self.right.copy(self.alloc)?;
+        set(&mut self.last, mem::replace(&mut self.next, next));
+        let image = self.image.copy()?;
+        set(&mut self.last.image, image);
+        let right = self.right.copy(self.alloc)?;
+        set(&mut self.before, right);
         Ok(())
     }
 
@@ -239,7 +270,8 @@ impl Player {
     // Goes on with the image of a run.
     fn take_image(&mut self, ran: &Ran) -> Result<(), OutOfMemory> {
         if let Some(taken) = ran.seen.images.first() {
-            self.image = taken.image.copy()?;
+            let image = taken.image.copy()?;
+            set(&mut self.image, image);
         }
         Ok(())
     }
@@ -271,7 +303,7 @@ impl Player {
             return Ok(());
         }
         match led_from(self.alloc, &self.right, &self.last, ran)? {
-            Some(right) => self.right = right,
+            Some(right) => set(&mut self.right, right),
             None => self.page.put(b"WRONG: the tape isn't legal\n"),
         }
         Ok(())
@@ -290,7 +322,8 @@ impl Player {
             self.page.put(b"WRONG: the tape isn't empty\n");
         }
         if self.right.none {
-            self.right = Right::empty(self.alloc, ran.status != 0)?;
+            let right = Right::empty(self.alloc, ran.status != 0)?;
+            set(&mut self.right, right);
         }
         Ok(())
     }
@@ -325,7 +358,9 @@ impl Player {
             return Ok(None);
         };
         let ran = play(self.alloc, &self.last, Ask::Stop(calls, digits))?;
-        self.go_on_with(&ran)
+        let goes_on = self.go_on_with(&ran);
+        drop(ran);
+        goes_on
     }
 
     // Any number of the last run's commits is right.
@@ -357,6 +392,7 @@ impl Player {
     fn list_calls(&mut self) -> Result<(), OutOfMemory> {
         let ran = play(self.alloc, &self.last, Ask::Calls)?;
         self.page.put(ran.seen.listing.bytes());
+        drop(ran);
         Ok(())
     }
 
@@ -364,6 +400,7 @@ impl Player {
     fn put_answers(&mut self) -> Result<(), OutOfMemory> {
         let ran = play(self.alloc, &self.last, Ask::Last)?;
         self.put_answered(&ran);
+        drop(ran);
         Ok(())
     }
 
@@ -397,7 +434,9 @@ impl Player {
     fn put_each(&mut self, is_tokens: bool) -> Result<(), OutOfMemory> {
         let next = Setup::new(self.alloc, Image::new(self.alloc));
         let setup = mem::replace(&mut self.next, next);
-        self.put_lines(is_tokens, &setup.script)
+        let done = self.put_lines(is_tokens, &setup.script);
+        drop(setup);
+        done
     }
 
     fn put_lines(&mut self, is_tokens: bool, script: &[u8]) -> Result<(), OutOfMemory> {

@@ -30,7 +30,10 @@ pub fn put_tokens(alloc: Global, page: &mut Page, line: &[u8]) -> Result<(), Out
 pub fn put_script(alloc: Global, page: &mut Page, bytes: &[u8]) -> Result<(), OutOfMemory> {
     let mut source = MemSource::new(Text::from_slice(alloc, bytes)?, List::new(alloc));
     let read = read_script(alloc, &mut source);
-    put_read(alloc, page, &read)
+    let put = put_read(alloc, page, &read);
+    drop(read);
+    drop(source);
+    put
 }
 
 fn put_read(
@@ -61,7 +64,9 @@ pub fn put_line(alloc: Global, page: &mut Page, line: &[u8]) -> Result<(), OutOf
     bytes.push(b'\n')?;
     page.put(line);
     page.put(b" -> ");
-    put_script(alloc, page, &bytes)
+    let put = put_script(alloc, page, &bytes);
+    drop(bytes);
+    put
 }
 
 /// Whether bytes are a record of the log, or which check fails at which byte.

@@ -155,8 +155,21 @@ pub fn look_at(
 // Runs a command.
 fn play_command(alloc: Global, setup: &Setup, ask: Ask) -> Result<Ran, AllocError> {
     let mut source = source_of(alloc, setup)?;
+    let ran = command_from(alloc, setup, ask, &mut source);
+    drop(source);
+    ran
+}
+
+fn command_from(
+    alloc: Global,
+    setup: &Setup,
+    ask: Ask,
+    source: &mut MemSource,
+) -> Result<Ran, AllocError> {
     let mut sink = sink_of(alloc, setup)?;
-    command_put(alloc, setup, ask, &mut source, &mut sink)
+    let ran = command_put(alloc, setup, ask, source, &mut sink);
+    drop(sink);
+    ran
 }
 
 fn command_put(
@@ -215,7 +228,9 @@ fn frames_of(setup: &Setup) -> usize
 // Runs a script by turns of the setup's actors.
 fn play_turns(alloc: Global, setup: &Setup, ask: Ask) -> Result<Ran, AllocError> {
     let mut source = source_of(alloc, setup)?;
-    turns_put(alloc, setup, ask, &mut source)
+    let ran = turns_put(alloc, setup, ask, &mut source);
+    drop(source);
+    ran
 }
 
 fn turns_put(

@@ -37,7 +37,9 @@ fn add_hex(alloc: Global, script: &mut Vec<u8>, rest: &[u8]) -> Result<Option<()
     let Some(bytes) = hex_bytes(alloc, rest)? else {
         return Ok(None);
     };
-    script.extend_from_slice(&bytes)?;
+    let added = script.extend_from_slice(&bytes);
+    drop(bytes);
+    added?;
     Ok(Some(()))
 }
 
@@ -54,6 +56,18 @@ fn add_each(alloc: Global, script: &mut Vec<u8>, rest: &[u8]) -> Result<Option<(
     Ok(Some(()))
 }
 
+fn add_with(script: &mut Vec<u8>, digits: &[u8], line: &[u8]) -> Result<(), AllocError> {
+    for byte in line {
+        match *byte {
+            b'#' => script.extend_from_slice(digits)?,
+            b'^' => script.push(b'\n')?,
+            _ => script.push(*byte)?,
+        }
+    }
+    script.push(b'\n')?;
+    Ok(())
+}
+
 fn add_numbered(
     alloc: Global,
     script: &mut Vec<u8>,
@@ -61,14 +75,15 @@ fn add_numbered(
     line: &[u8],
 ) -> Result<(), AllocError> {
     let digits = format!(in alloc; "{number}")?;
-    for byte in line {
-        match *byte {
-            b'#' => script.extend_from_slice(digits.as_bytes())?,
-            b'^' => script.push(b'\n')?,
-            _ => script.push(*byte)?,
-        }
+    let added = add_with(script, digits.as_bytes(), line);
+    drop(digits);
+    added
+}
+
+fn add_often(script: &mut Vec<u8>, count: u64, bytes: &[u8]) -> Result<(), AllocError> {
+    for _ in 0..count {
+        script.extend_from_slice(bytes)?;
     }
-    script.push(b'\n')?;
     Ok(())
 }
 
@@ -79,8 +94,8 @@ fn add_fill(alloc: Global, script: &mut Vec<u8>, rest: &[u8]) -> Result<Option<(
     let Some(bytes) = hex_bytes(alloc, rest)? else {
         return Ok(None);
     };
-    for _ in 0..count {
-        script.extend_from_slice(&bytes)?;
-    }
+    let added = add_often(script, count, &bytes);
+    drop(bytes);
+    added?;
     Ok(Some(()))
 }

@@ -1,4 +1,5 @@
 // What a run begins with, and what it leaves: plain data. A disk lives inside a run alone.
+use crate::lists::{add, set};
 use crate::page::Page;
 use ctr_home::Root;
 use ctr_mem_disk::Image;
@@ -153,12 +154,17 @@ impl Setup {
     }
 }
 
+// The words of a command on `d`.
+fn command_words(alloc: Global, command: &str) -> Result<Vec<String>, AllocError> {
+    let mut words = Vec::new(alloc);
+    add(&mut words, String::from_str(alloc, command)?)?;
+    add(&mut words, String::from_str(alloc, "d")?)?;
+    Ok(words)
+}
+
 /// The words `run d`.
 pub fn run_words(alloc: Global) -> Result<Vec<String>, AllocError> {
-    let mut words = Vec::new(alloc);
-    words.push(String::from_str(alloc, "run")?)?;
-    words.push(String::from_str(alloc, "d")?)?;
-    Ok(words)
+    command_words(alloc, "run")
 }
 
 /// A run of a script over an image, in which nothing fails.
@@ -166,18 +172,16 @@ pub fn plain_run(alloc: Global, image: &Image, script: &[u8]) -> Result<Setup, A
     let words = run_words(alloc)?;
     let script = script.to_vec(alloc)?;
     let mut setup = Setup::new(alloc, image.copy()?);
-    setup.words = words;
-    setup.script = script;
+    set(&mut setup.words, words);
+    set(&mut setup.script, script);
     Ok(setup)
 }
 
 /// A report of an image, in which nothing fails.
 pub fn plain_report(alloc: Global, image: &Image) -> Result<Setup, AllocError> {
-    let mut words = Vec::new(alloc);
-    words.push(String::from_str(alloc, "report")?)?;
-    words.push(String::from_str(alloc, "d")?)?;
+    let words = command_words(alloc, "report")?;
     let mut setup = Setup::new(alloc, image.copy()?);
-    setup.words = words;
+    set(&mut setup.words, words);
     Ok(setup)
 }
 
@@ -190,7 +194,7 @@ pub fn plain_turns(
 ) -> Result<Setup, AllocError> {
     let mut setup = Setup::new(alloc, image.copy()?);
     setup.work = Work::Turns;
-    setup.script = script;
-    setup.actors = actors;
+    set(&mut setup.script, script);
+    set(&mut setup.actors, actors);
     Ok(setup)
 }

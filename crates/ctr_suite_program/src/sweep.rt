@@ -1,7 +1,7 @@
 // A run under every stop, and under every failing call.
 use crate::databases::Right;
 use crate::judge::{Found, Probe, answered_by, found_alone, found_in, led_from};
-use crate::lists::one;
+use crate::lists::{one, set};
 use crate::page::Page;
 use crate::run::play;
 use crate::setup::{Ask, Ran, Setup};
@@ -121,6 +121,7 @@ pub fn sweep_stops(
     let done = tally_stops(alloc, setup, right, was_none, &mut tally);
     page.put(b"each stop: ");
     tally.put(alloc, page);
+    drop(tally);
     done
 }
 
@@ -131,9 +132,24 @@ fn tally_stops(
     was_none: bool,
     tally: &mut Tally,
 ) -> Result<(), OutOfMemory> {
+    let calls = calls_of(alloc, setup)?;
     let probe = Probe::new(alloc, right)?;
-    for part in 0..=calls_of(alloc, setup)? / PART {
-        tally_part(alloc, setup, right, was_none, part, &probe, tally)?;
+    let done = tally_parts(alloc, setup, right, was_none, calls, &probe, tally);
+    drop(probe);
+    done
+}
+
+fn tally_parts(
+    alloc: Global,
+    setup: &Setup,
+    right: &Right,
+    was_none: bool,
+    calls: u64,
+    probe: &Probe,
+    tally: &mut Tally,
+) -> Result<(), OutOfMemory> {
+    for part in 0..=calls / PART {
+        tally_part(alloc, setup, right, was_none, part, probe, tally)?;
     }
     Ok(())
 }
@@ -153,7 +169,9 @@ fn tally_part(
         setup,
         Ask::Between(from, from.saturating_add(PART - 1)),
     )?;
-    tally_of(alloc, setup, right, was_none, &ran, probe, tally)
+    let done = tally_of(alloc, setup, right, was_none, &ran, probe, tally);
+    drop(ran);
+    done
 }
 
 /// How a run ended whose call failed, as far as a line tells it.
@@ -211,7 +229,11 @@ fn judge_failing(
         without: false,
     };
     match right_after(alloc, before, setup, ran)? {
-        Some(right) => held_by(alloc, &right, before.none, ran, failing),
+        Some(right) => {
+            let held = held_by(alloc, &right, before.none, ran, failing);
+            drop(right);
+            held
+        }
         None => Ok(failing),
     }
 }
@@ -245,19 +267,23 @@ fn fail_once(
     let fails = one(alloc, number)?;
     let kept = mem::replace(&mut setup.disk_fails, fails);
     let failing = play_failing(alloc, setup, before);
-    setup.disk_fails = kept;
+    set(&mut setup.disk_fails, kept);
     failing
 }
 
 fn play_failing(alloc: Global, setup: &Setup, before: &Right) -> Result<Failing, OutOfMemory> {
     let ran = play(alloc, setup, Ask::Last)?;
-    judge_failing(alloc, before, setup, &ran)
+    let failing = judge_failing(alloc, before, setup, &ran);
+    drop(ran);
+    failing
 }
 
 // How many device calls a run makes.
 fn calls_of(alloc: Global, setup: &Setup) -> Result<u64, OutOfMemory> {
     let ran = play(alloc, setup, Ask::Last)?;
-    Ok(ran.seen.moments.len() as u64)
+    let calls = ran.seen.moments.len() as u64;
+    drop(ran);
+    Ok(calls)
 }
 
 /// Lets each device call of a run fail in turn, and judges what it says and leaves. Calls that end alike are one line.

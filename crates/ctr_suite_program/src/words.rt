@@ -26,22 +26,48 @@ pub fn words_in(alloc: Global, rest: &[u8]) -> Result<Vec<String>, AllocError> {
     Ok(words)
 }
 
+fn actor_of(word: &[u8]) -> Option<Actor> {
+    match word {
+        b"f" => Some(Actor::Flusher),
+        b"c" => Some(Actor::Cleaner),
+        b"u" => Some(Actor::Undo),
+        _ => Some(Actor::Session((number(word)? % 256) as u8)),
+    }
+}
+
+// Adds actors; whether each word is one.
+fn add_actors(actors: &mut Vec<Actor>, rest: &[u8]) -> Result<bool, AllocError> {
+    for word in rest.split(|byte| *byte == b' ') {
+        if !word.is_empty() {
+            match actor_of(word) {
+                Some(actor) => actors.push(actor)?,
+                None => return Ok(false),
+            }
+        }
+    }
+    Ok(true)
+}
+
 /// Actors: the number of a session, `f` for the flusher, `c` for the cleaner, `u` for undo.
 pub fn actors_in(alloc: Global, rest: &[u8]) -> Result<Option<Vec<Actor>>, AllocError> {
     let mut actors = Vec::new(alloc);
-    for word in rest.split(|byte| *byte == b' ') {
-        match word {
-            [] => {}
-            b"f" => actors.push(Actor::Flusher)?,
-            b"c" => actors.push(Actor::Cleaner)?,
-            b"u" => actors.push(Actor::Undo)?,
-            _ => match number(word) {
-                Some(session) => actors.push(Actor::Session((session % 256) as u8))?,
-                None => return Ok(None),
-            },
-        }
+    match add_actors(&mut actors, rest)? {
+        true => Ok(Some(actors)),
+        false => Ok(None),
     }
-    Ok(Some(actors))
+}
+
+fn root_by(list: &[u64]) -> Option<Root> {
+    match (list.first(), list.get(1), list.get(2)) {
+        (Some(stamp), Some(file), Some(first)) => Some(Root {
+            stamp: *stamp,
+            format: 1,
+            file: (*file % 2) as u8,
+            first: *first,
+            pages: 64,
+        }),
+        _ => None,
+    }
 }
 
 /// A stamp, the number of a file and a first LSN.
@@ -49,14 +75,7 @@ pub fn root_of(alloc: Global, rest: &[u8]) -> Result<Option<Root>, AllocError> {
     let Some(list) = numbers(alloc, rest)? else {
         return Ok(None);
     };
-    match (list.first(), list.get(1), list.get(2)) {
-        (Some(stamp), Some(file), Some(first)) => Ok(Some(Root {
-            stamp: *stamp,
-            format: 1,
-            file: (*file % 2) as u8,
-            first: *first,
-            pages: 64,
-        })),
-        _ => Ok(None),
-    }
+    let root = root_by(&list);
+    drop(list);
+    Ok(root)
 }

@@ -4,7 +4,7 @@ use crate::plain::Plain;
 use crate::reading::{Patch, Question};
 use crate::run::{Progress, image_of, made, play};
 use crate::runs::{Runs, Start};
-use crate::steps::{Step, cut_steps, long_steps, random_steps, switching_steps};
+use crate::steps::{Step, add_long, add_random, add_switching};
 use crate::stops::Seen;
 use ctr_mem_disk::Image;
 use ctr_types::List;
@@ -102,13 +102,17 @@ fn patched_behind(
     progress: &mut Progress,
 ) -> Result<String, AllocError> {
     let mut files = image_of(play(alloc, &start.files, &case.steps, List::new(alloc), progress)?);
-    patched(alloc, &mut files, &case.patches, &progress.plain)
+    let answer = patched(alloc, &mut files, &case.patches, &progress.plain);
+    drop(files);
+    answer
 }
 
 // What an opening answers behind the steps and the patches of a case.
 fn opens(alloc: Global, start: &Start, case: &Case) -> Result<String, AllocError> {
     let mut progress = Progress::new(alloc, start.pages)?;
-    patched_behind(alloc, start, case, &mut progress)
+    let answer = patched_behind(alloc, start, case, &mut progress);
+    drop(progress);
+    answer
 }
 
 // The same behind steps that are made from a number.
@@ -129,7 +133,42 @@ fn runs<'a>(alloc: Global, start: &'a Start, steps: &'a [Step], each: u64) -> Ru
     }
 }
 
-// What a case answers whose steps are written down.
+// Adds the steps that a question has made from a number.
+fn add_made(steps: &mut Vec<Step>, question: Question) -> Result<(), AllocError> {
+    match question {
+        Question::Random { from, count } => add_random(steps, from, count),
+        Question::Failing { from, count } => add_random(steps, from, count),
+        Question::Switching { from, count } => add_switching(steps, from, count),
+        Question::Long { from, count } => add_long(steps, from, count, false),
+        Question::Cut { from, count } => add_long(steps, from, count, true),
+        Question::Stops | Question::Failures | Question::Opens => Ok(()),
+    }
+}
+
+// What a case answers whose steps are made from a number.
+fn answer_made(
+    alloc: Global,
+    start: &Start,
+    steps: &[Step],
+    question: Question,
+) -> Result<String, AllocError> {
+    match question {
+        Question::Long { .. } | Question::Cut { .. } => opens_long(alloc, start, steps),
+        Question::Failing { .. } => failures(&mut runs(alloc, start, steps, EACH_RANDOM)),
+        _ => random_stops(&mut runs(alloc, start, steps, EACH_RANDOM)),
+    }
+}
+
+// The same, whose steps are made here.
+fn answer_by(alloc: Global, start: &Start, question: Question) -> Result<String, AllocError> {
+    let mut steps = Vec::new(alloc);
+    add_made(&mut steps, question)?;
+    let answer = answer_made(alloc, start, &steps, question);
+    drop(steps);
+    answer
+}
+
+// What a case answers on these files.
 fn answer_on(
     alloc: Global,
     start: &Start,
@@ -140,24 +179,7 @@ fn answer_on(
         Question::Stops => stops(&mut runs(alloc, start, &case.steps, EACH)),
         Question::Failures => failures(&mut runs(alloc, start, &case.steps, EACH_RANDOM)),
         Question::Opens => opens(alloc, start, case),
-        Question::Random { from, count } => {
-            let steps = random_steps(alloc, from, count)?;
-            random_stops(&mut runs(alloc, start, &steps, EACH_RANDOM))
-        }
-        Question::Long { from, count } => opens_long(
-            alloc,
-            start,
-            &long_steps(alloc, from, count)?,
-        ),
-        Question::Cut { from, count } => opens_long(alloc, start, &cut_steps(alloc, from, count)?),
-        Question::Switching { from, count } => {
-            let steps = switching_steps(alloc, from, count)?;
-            random_stops(&mut runs(alloc, start, &steps, EACH_RANDOM))
-        }
-        Question::Failing { from, count } => {
-            let steps = random_steps(alloc, from, count)?;
-            failures(&mut runs(alloc, start, &steps, EACH_RANDOM))
-        }
+        _ => answer_by(alloc, start, question),
     }
 }
 
@@ -171,5 +193,7 @@ pub fn answer_of(alloc: Global, case: &Case, question: Question) -> Result<Strin
         files: made(alloc, growths as u64)?,
         pages: growths * 64 + 64,
     };
-    answer_on(alloc, &start, case, question)
+    let answer = answer_on(alloc, &start, case, question);
+    drop(start);
+    answer
 }

@@ -16,6 +16,15 @@ fn number_of(page: u64, bytes: &[u8]) -> u64 {
     if any == 0 { 0 } else { sum }
 }
 
+// Lays eight such bytes over a page, as far as it goes.
+fn lay(page: &mut [u8], at: usize, byte: u8) {
+    for i in 0..8 {
+        if let Some(place) = page.get_mut(at.wrapping_add(i)) {
+            *place = byte;
+        }
+    }
+}
+
 /// A state told by numbers: the sum of those of its pages, and the next transaction.
 #[derive(Clone, Copy, PartialEq, Eq)]
 pub struct Told {
@@ -111,11 +120,7 @@ impl Plain {
         let mut told = self.last();
         if let Some(bytes) = self.pages.get_mut(overlay.page as usize) {
             told.take_page(page, bytes);
-            for i in 0..8 {
-                if let Some(place) = bytes.get_mut((overlay.at as usize).wrapping_add(i)) {
-                    *place = overlay.byte;
-                }
-            }
+            lay(bytes, overlay.at as usize, overlay.byte);
             told.add_page(page, bytes);
         }
         self.states.push(told)?;

@@ -1,6 +1,6 @@
 // Lines as they are written.
 use crate::steps::{Overlay, Step};
-use ctr_suite::Words;
+use ctr_suite::{Words, named};
 use ctr_types::File;
 
 /// Bytes that are written into a file by hand.
@@ -49,23 +49,26 @@ fn read_overlay(words: &mut Words) -> Overlay {
     }
 }
 
+const STEPS: &[(&str, Step)] = &[
+    ("begin", Step::Begin),
+    ("harden", Step::Harden),
+    ("write", Step::Write),
+    ("room", Step::Room),
+    ("grow", Step::Grow),
+    ("generation", Step::Generation),
+    ("switch", Step::Switch),
+    ("forget", Step::Forget),
+];
+
 fn read_step(verb: &[u8], words: &mut Words) -> Option<Step> {
     let step = match verb {
-        b"begin" => Step::Begin,
         b"keep" => Step::Keep(read_overlay(words)),
         b"trim" => Step::Trim(read_overlay(words)),
-        b"harden" => Step::Harden,
-        b"write" => Step::Write,
-        b"room" => Step::Room,
         b"read" => Step::Read {
             times: words.value(),
             pages: words.value(),
         },
-        b"grow" => Step::Grow,
-        b"generation" => Step::Generation,
-        b"switch" => Step::Switch,
-        b"forget" => Step::Forget,
-        _ => return None,
+        _ => return named(STEPS, verb),
     };
     Some(step)
 }
@@ -91,34 +94,31 @@ fn read_patch<'a>(words: &mut Words<'a>) -> Patch<'a> {
     }
 }
 
+const QUESTIONS: &[(&str, Question)] = &[
+    ("stops", Question::Stops),
+    ("failures", Question::Failures),
+    ("opens", Question::Opens),
+];
+
+// A question on so many steps or records that are made from a number.
+fn made_question(verb: &[u8], from: u64, count: u64) -> Option<Question> {
+    let questions = [
+        ("random", Question::Random { from, count }),
+        ("long", Question::Long { from, count }),
+        ("cut", Question::Cut { from, count }),
+        ("switching", Question::Switching { from, count }),
+        ("failing", Question::Failing { from, count }),
+    ];
+    named(&questions, verb)
+}
+
 fn read_question(verb: &[u8], words: &mut Words) -> Option<Question> {
-    let question = match verb {
-        b"stops" => Question::Stops,
-        b"failures" => Question::Failures,
-        b"opens" => Question::Opens,
-        b"random" => Question::Random {
-            from: words.value(),
-            count: words.value(),
-        },
-        b"long" => Question::Long {
-            from: words.value(),
-            count: words.value(),
-        },
-        b"cut" => Question::Cut {
-            from: words.value(),
-            count: words.value(),
-        },
-        b"switching" => Question::Switching {
-            from: words.value(),
-            count: words.value(),
-        },
-        b"failing" => Question::Failing {
-            from: words.value(),
-            count: words.value(),
-        },
-        _ => return None,
-    };
-    Some(question)
+    if let Some(question) = named(QUESTIONS, verb) {
+        return Some(question);
+    }
+    let from = words.value();
+    let count = words.value();
+    made_question(verb, from, count)
 }
 
 /// What a line says. It says nothing where a word is missing, isn't what it has to be, or stands behind the last one.

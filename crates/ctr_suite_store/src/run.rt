@@ -48,14 +48,13 @@ impl Progress {
     }
 }
 
-// The bytes of a record on a page: this number, a transaction where there is one, eight such bytes at a place.
-fn record_bytes(
-    alloc: Global,
+// Adds the bytes of a record on a page: this number, a transaction where there is one, eight such bytes at a place.
+fn add_record(
+    bytes: &mut Vec<u8>,
     tag: u8,
     xid: Option<u64>,
     overlay: Overlay,
-) -> Result<Vec<u8>, AllocError> {
-    let mut bytes = Vec::new(alloc);
+) -> Result<(), AllocError> {
     bytes.push(tag)?;
     if let Some(xid) = xid {
         bytes.extend_from_slice(&xid.to_le_bytes())?;
@@ -64,7 +63,18 @@ fn record_bytes(
     bytes.extend_from_slice(&overlay.page.to_le_bytes())?;
     bytes.extend_from_slice(&overlay.at.to_le_bytes())?;
     bytes.extend_from_slice(&8u16.to_le_bytes())?;
-    bytes.extend_from_slice(&[overlay.byte; 8])?;
+    bytes.extend_from_slice(&[overlay.byte; 8])
+}
+
+// The bytes of such a record.
+fn record_bytes(
+    alloc: Global,
+    tag: u8,
+    xid: Option<u64>,
+    overlay: Overlay,
+) -> Result<Vec<u8>, AllocError> {
+    let mut bytes = Vec::new(alloc);
+    add_record(&mut bytes, tag, xid, overlay)?;
     Ok(bytes)
 }
 
@@ -278,10 +288,15 @@ fn growing(alloc: Global, growths: u64) -> Result<Vec<Step>, AllocError> {
     Ok(steps)
 }
 
+// A disk with no files.
+fn empty_disk(alloc: Global) -> Result<SilentDisk, AllocError> {
+    let disk = MemDisk::new(alloc, Image::new(alloc), List::new(alloc))?;
+    Ok(SilentDisk { disk })
+}
+
 // The files of a new database, on whose store these steps were taken.
 fn made_by(alloc: Global, steps: &[Step], progress: &mut Progress) -> Result<Image, AllocError> {
-    let disk = disk_of(alloc, &Image::new(alloc), List::new(alloc))?;
-    let disk = created(disk);
+    let disk = created(empty_disk(alloc)?);
     Ok(image_of(go_on(alloc, disk, progress, steps)))
 }
 

@@ -137,12 +137,16 @@ impl<'a> Runs<'a> {
     ) -> Result<Reached, AllocError> {
         let steps = &self.steps[..count.min(self.steps.len())];
         let disk = play(self.alloc, &self.start.files, steps, fails, progress)?;
-        self.look_at(&disk.disk, progress, what)
+        let reached = self.look_at(&disk.disk, progress, what);
+        drop(disk);
+        reached
     }
 
     fn run(&mut self, count: usize, fails: List<u64>, what: Look) -> Result<Reached, AllocError> {
         let mut progress = Progress::new(self.alloc, self.start.pages)?;
-        self.run_into(count, fails, what, &mut progress)
+        let reached = self.run_into(count, fails, what, &mut progress);
+        drop(progress);
+        reached
     }
 
     /// Looks at the stops of all steps, one after another; how many records there were.

@@ -1,7 +1,7 @@
 // The steps of a case.
 use rand_core::{Rng, SeedableRng};
 use rand_xoshiro::Xoshiro256PlusPlus;
-use std::alloc::{AllocError, Global};
+use std::alloc::AllocError;
 
 /// A call on a store.
 #[derive(Clone, Copy)]
@@ -62,10 +62,9 @@ fn step_by(n: u64) -> Step {
     }
 }
 
-/// So many steps from a number: a Begin first, a growth in the middle, and at the end a hardening.
-pub fn random_steps(alloc: Global, from: u64, count: u64) -> Result<Vec<Step>, AllocError> {
+/// Adds so many steps from a number: a Begin first, a growth in the middle, and at the end a hardening.
+pub fn add_random(steps: &mut Vec<Step>, from: u64, count: u64) -> Result<(), AllocError> {
     let mut rng = Xoshiro256PlusPlus::seed_from_u64(from);
-    let mut steps = Vec::new(alloc);
     steps.push(Step::Begin)?;
     for i in 0..count {
         if i == count / 2 {
@@ -74,13 +73,12 @@ pub fn random_steps(alloc: Global, from: u64, count: u64) -> Result<Vec<Step>, A
         steps.push(step_by(rng.next_u64()))?;
     }
     steps.push(Step::Harden)?;
-    Ok(steps)
+    Ok(())
 }
 
-/// So many steps from a number, with generations that begin behind hardenings and go again.
-pub fn switching_steps(alloc: Global, from: u64, count: u64) -> Result<Vec<Step>, AllocError> {
+/// Adds so many steps from a number, with generations that begin behind hardenings and go again.
+pub fn add_switching(steps: &mut Vec<Step>, from: u64, count: u64) -> Result<(), AllocError> {
     let mut rng = Xoshiro256PlusPlus::seed_from_u64(from);
-    let mut steps = Vec::new(alloc);
     steps.push(Step::Begin)?;
     for i in 0..count {
         steps.push(step_by(rng.next_u64()))?;
@@ -94,11 +92,11 @@ pub fn switching_steps(alloc: Global, from: u64, count: u64) -> Result<Vec<Step>
         }
     }
     steps.push(Step::Harden)?;
-    Ok(steps)
+    Ok(())
 }
 
 // Begins a generation, and drops the older one once all pages are home.
-fn push_cut(steps: &mut Vec<Step>) -> Result<(), AllocError> {
+fn add_cut(steps: &mut Vec<Step>) -> Result<(), AllocError> {
     steps.push(Step::Harden)?;
     steps.push(Step::Switch)?;
     for _ in 0..8 {
@@ -108,31 +106,23 @@ fn push_cut(steps: &mut Vec<Step>) -> Result<(), AllocError> {
     Ok(())
 }
 
-/// A Begin and so many Keeps from a number, each behind turns for room; behind each 500 the log is cut.
-pub fn cut_steps(alloc: Global, from: u64, count: u64) -> Result<Vec<Step>, AllocError> {
+/// Adds a Begin and so many Keeps from a number, each behind turns for room, and at the end a hardening; where the log is to be
+/// cut, it is behind each 500.
+pub fn add_long(
+    steps: &mut Vec<Step>,
+    from: u64,
+    count: u64,
+    is_cut: bool,
+) -> Result<(), AllocError> {
     let mut rng = Xoshiro256PlusPlus::seed_from_u64(from);
-    let mut steps = Vec::new(alloc);
     steps.push(Step::Begin)?;
     for i in 0..count {
         steps.push(Step::Room)?;
         steps.push(Step::Keep(overlay_by(rng.next_u64())))?;
-        if i % 500 == 499 {
-            push_cut(&mut steps)?;
+        if is_cut && i % 500 == 499 {
+            add_cut(steps)?;
         }
     }
     steps.push(Step::Harden)?;
-    Ok(steps)
-}
-
-/// A Begin and so many Keeps from a number, each behind turns for room, and at the end a hardening.
-pub fn long_steps(alloc: Global, from: u64, count: u64) -> Result<Vec<Step>, AllocError> {
-    let mut rng = Xoshiro256PlusPlus::seed_from_u64(from);
-    let mut steps = Vec::new(alloc);
-    steps.push(Step::Begin)?;
-    for _ in 0..count {
-        steps.push(Step::Room)?;
-        steps.push(Step::Keep(overlay_by(rng.next_u64())))?;
-    }
-    steps.push(Step::Harden)?;
-    Ok(steps)
+    Ok(())
 }

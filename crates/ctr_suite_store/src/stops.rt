@@ -93,12 +93,14 @@ fn finding_of(store: &mut Mem) -> Finding
     }
 }
 
-// The same of one that was opened for that.
+// The same of one that was opened for that. It is dropped by a call, since at the end of a scope the proof frees all of it here.
 fn read(store: Mem) -> Finding
     requires { store.stopped ≡ false }
 {
     let mut store = store;
-    finding_of(&mut store)
+    let finding = finding_of(&mut store);
+    drop(store);
+    finding
 }
 
 /// Opens an image, and reads it.
