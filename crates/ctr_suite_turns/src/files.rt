@@ -1,6 +1,7 @@
 // The files of a database, and stores that are opened on them. Whoever owns a disk or a store here does nothing else.
 ghost use Rattle.std.specs.Prelude.{◌≡◌, ◌≤◌, false, IfSome, OnOk};
 
+use crate::lists::set;
 use crate::trouble::Trouble;
 use ctr_base::Origin;
 use ctr_disk::{Disk, StoreFault};
@@ -95,13 +96,25 @@ fn settle(store: Mem) -> (SilentDisk, Result<(), StoreFault>)
     (store.into_disk(), done)
 }
 
-// In both homes of page 0 a bit for each page that there may be; a root that was written once counts them.
-fn allocate_all(alloc: Global, image: &mut Image) -> Result<(), AllocError> {
+// A bit for each page that there may be, but the first three.
+fn all_bits(alloc: Global) -> Result<Vec<u8>, AllocError> {
     let mut bits = Vec::new(alloc);
     bits.push(248)?;
     bits.resize(3_750, 255)?;
-    image.write(alloc, File::Pages, 13, &bits)?;
-    image.write(alloc, File::Pages, 4_141, &bits)?;
+    Ok(bits)
+}
+
+fn write_bits(alloc: Global, image: &mut Image, bits: &[u8]) -> Result<(), AllocError> {
+    image.write(alloc, File::Pages, 13, bits)?;
+    image.write(alloc, File::Pages, 4_141, bits)
+}
+
+// In both homes of page 0 a bit for each page that there may be; a root that was written once counts them.
+fn allocate_all(alloc: Global, image: &mut Image) -> Result<(), AllocError> {
+    let bits = all_bits(alloc)?;
+    let written = write_bits(alloc, image, &bits);
+    drop(bits);
+    written?;
     image.write(alloc, File::Root, 34, &MOST_PAGES.to_le_bytes())?;
     image.set_len(alloc, File::Pages, 8_256 * MOST_PAGES as u64)
 }
@@ -112,7 +125,7 @@ pub fn fill(alloc: Global, files: &mut Files) -> Result<(), Trouble> {
         return Err(Trouble::NotOpened);
     };
     let (disk, done) = settle(store);
-    files.image = files_of(disk);
+    set(&mut files.image, files_of(disk));
     done?;
     allocate_all(alloc, &mut files.image)?;
     Ok(())

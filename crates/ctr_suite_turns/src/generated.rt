@@ -2,6 +2,7 @@
 use crate::lines::add_line;
 use crate::page::Page;
 use crate::trouble::Trouble;
+use crate::turns::CLEANER;
 use ctr_types::{Line, List};
 use rand_core::{Rng, SeedableRng};
 use rand_xoshiro::Xoshiro256PlusPlus;
@@ -32,19 +33,22 @@ pub struct Maker {
     alloc: Global,
     rng: Xoshiro256PlusPlus,
     sessions: u64,
+    /// Whether the cleaner has turns.
+    cleans: bool,
     /// The lines so far, as a script has them, and how many.
     pub text: Page,
     pub lines: List<Line>,
 }
 
 impl Maker {
-    pub fn new(alloc: Global, number: u64) -> Maker {
+    pub fn new(alloc: Global, number: u64, cleans: bool) -> Maker {
         let mut rng = Xoshiro256PlusPlus::seed_from_u64(number);
         let sessions = rng.next_u64() % 7 + 2;
         Maker {
             alloc,
             rng,
             sessions,
+            cleans,
             text: Page::new(alloc),
             lines: List::new(alloc),
         }
@@ -181,13 +185,16 @@ impl Maker {
         Ok(())
     }
 
-    /// An order of turns, mostly longer than the script wants.
+    /// An order of turns, mostly longer than the script wants. Where the cleaner has turns, every third is mostly its.
     pub fn order(&mut self) -> Result<Vec<u8>, AllocError> {
         let mut order = Vec::new(self.alloc);
         let lines = self.lines.len() as u64;
         for _ in 0..self.below(lines.saturating_mul(4)) {
             let s = self.below(self.sessions) % 8;
             order.push(b'1' + s as u8)?;
+            if self.cleans && self.below(2) == 0 {
+                order.push(CLEANER)?;
+            }
         }
         Ok(order)
     }

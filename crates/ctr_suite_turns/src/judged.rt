@@ -2,6 +2,7 @@
 ghost use Rattle.std.specs.Prelude.{◌≡◌};
 ghost use Rattle.ctr_model.specs.Tape.{at_start};
 
+use crate::lists::set;
 use crate::run::Run;
 use ctr_machine::is_legal;
 use ctr_model::{Map, Point, State, Table};
@@ -39,7 +40,7 @@ pub fn follow(
         return Err(OutOfMemory);
     }
     let stuck = run.stuck.copy(alloc)?;
-    *point = starting(alloc, base.copy(alloc)?, stuck);
+    set(point, starting(alloc, base.copy(alloc)?, stuck));
     is_legal(alloc, run.lines.as_slice(), point, &run.tape)
 }
 
@@ -57,7 +58,22 @@ pub fn answered_by(entries: &[Entry], moment: u64) -> u64 {
 // The same of one database, at a point of one's own.
 fn is_legal_from(alloc: Global, base: &Tables, run: &Run) -> Result<bool, OutOfMemory> {
     let mut point = nowhere(alloc);
-    follow(alloc, base, run, &mut point)
+    let legal = follow(alloc, base, run, &mut point);
+    drop(point);
+    legal
+}
+
+// The same of the database behind so many commits.
+fn is_legal_behind(
+    alloc: Global,
+    state: &State,
+    number: u64,
+    run: &Run,
+) -> Result<bool, OutOfMemory> {
+    let base = state.rows_at(alloc, number)?;
+    let legal = is_legal_from(alloc, &base, run);
+    drop(base);
+    legal
 }
 
 /// Behind how many commits, so many at least, the database of a state is one that the tape of a run is legal from.
@@ -69,8 +85,7 @@ pub fn commits_seen(
 ) -> Result<Option<u64>, OutOfMemory> {
     let asked = state.asked.len() as u64;
     for number in least..asked.saturating_add(1) {
-        let base = state.rows_at(alloc, number)?;
-        if is_legal_from(alloc, &base, run)? {
+        if is_legal_behind(alloc, state, number, run)? {
             return Ok(Some(number));
         }
     }

@@ -1,4 +1,5 @@
 // The lines of a suite that make a script.
+use crate::lists::add;
 use crate::trouble::Trouble;
 use ctr_parse::{ParseRefusal, parse_line};
 use ctr_types::{Line, List};
@@ -7,26 +8,29 @@ use std::alloc::{AllocError, Global};
 /// Adds the line that a text is, as a script has it: `1> BEGIN;`.
 pub fn add_line(alloc: Global, lines: &mut List<Line>, text: &[u8]) -> Result<(), Trouble> {
     match parse_line(alloc, text) {
-        Ok(line) => {
-            lines.push(line)?;
-            Ok(())
-        }
+        Ok(line) => add(lines, line),
         Err(ParseRefusal::OutOfMemory) => Err(Trouble::OutOfMemory),
         Err(ParseRefusal::ParseError { at: _ }) => Err(Trouble::Spelling),
     }
+}
+
+// Adds a text, in which these digits stand for each #.
+fn add_digits(line: &mut Vec<u8>, text: &[u8], digits: &[u8]) -> Result<(), AllocError> {
+    for byte in text {
+        if *byte == b'#' {
+            line.extend_from_slice(digits)?;
+        } else {
+            line.push(*byte)?;
+        }
+    }
+    Ok(())
 }
 
 // The text, in which this number stands for each #.
 fn numbered(alloc: Global, text: &[u8], number: u64) -> Result<Vec<u8>, AllocError> {
     let digits = format!(in alloc; "{number}")?;
     let mut line = Vec::new(alloc);
-    for byte in text {
-        if *byte == b'#' {
-            line.extend_from_slice(digits.as_bytes())?;
-        } else {
-            line.push(*byte)?;
-        }
-    }
+    add_digits(&mut line, text, digits.as_bytes())?;
     Ok(line)
 }
 
@@ -38,7 +42,9 @@ fn add_numbered(
     number: u64,
 ) -> Result<(), Trouble> {
     let line = numbered(alloc, text, number)?;
-    add_line(alloc, lines, &line)
+    let added = add_line(alloc, lines, &line);
+    drop(line);
+    added
 }
 
 /// Adds a line for each number from one to another.
@@ -75,7 +81,9 @@ fn look_text(alloc: Global, name: &[u8]) -> Result<Vec<u8>, AllocError> {
 
 fn add_look(alloc: Global, lines: &mut List<Line>, name: &[u8]) -> Result<(), Trouble> {
     let text = look_text(alloc, name)?;
-    add_line(alloc, lines, &text)
+    let added = add_line(alloc, lines, &text);
+    drop(text);
+    added
 }
 
 // What begins a transaction, and reads each table.

@@ -117,6 +117,7 @@ pub fn look_into(
     };
     let (mut disk, done) = look_on(alloc, store, names, found);
     read_log(alloc, &mut disk, found);
+    drop(disk);
     done
 }
 
@@ -140,5 +141,7 @@ pub fn put_look(
     names: &[u8],
 ) -> Result<(), Trouble> {
     let mut found = Found::new(alloc);
-    put_found(alloc, page, files, names, &mut found)
+    let put = put_found(alloc, page, files, names, &mut found);
+    drop(found);
+    put
 }

@@ -5,11 +5,13 @@
 //! with the file `stdout`.
 #![tactic(auto)]
 
+mod cleaned;
 mod files;
 mod fitting;
 mod generated;
 mod judged;
 mod lines;
+mod lists;
 mod logged;
 mod looked;
 mod meetings;

@@ -76,6 +76,13 @@ fn refused_place(refusal: Refusal) -> Option<usize> {
     Some(place)
 }
 
+/// A generated run: its number, and whether the cleaner has turns in it.
+#[derive(Clone, Copy)]
+pub struct Meeting {
+    pub number: u64,
+    pub cleans: bool,
+}
+
 /// What was met.
 #[derive(Drop)]
 pub struct Met {
@@ -206,7 +213,9 @@ fn verdict_of(
     maker: &mut Maker,
 ) -> Result<Verdict, Trouble> {
     let mut point = nowhere(alloc);
-    verdict_at(alloc, base, looking, run, maker, &mut point)
+    let verdict = verdict_at(alloc, base, looking, run, maker, &mut point);
+    drop(point);
+    verdict
 }
 
 // Plays what is made.
@@ -223,7 +232,9 @@ fn play_made(
         digits: &digits,
         hardens: false,
     };
-    play_files(alloc, files, lines, order, run)
+    let disk = play_files(alloc, files, lines, order, run);
+    drop(digits);
+    disk
 }
 
 // Plays the meeting of a maker, and judges it.
@@ -240,7 +251,9 @@ fn meet_by(
         few: files.few,
         names: LOOKS,
     };
-    verdict_of(alloc, base, looking, run, maker)
+    let verdict = verdict_of(alloc, base, looking, run, maker);
+    drop(disk);
+    verdict
 }
 
 // Plays the meeting of a number over files with a database, and judges it.
@@ -248,11 +261,13 @@ fn meet(
     alloc: Global,
     files: &Files,
     base: &Tables,
-    number: u64,
+    meeting: Meeting,
     run: &mut Run,
 ) -> Result<Verdict, Trouble> {
-    let mut maker = Maker::new(alloc, number);
-    meet_by(alloc, files, base, &mut maker, run)
+    let mut maker = Maker::new(alloc, meeting.number, meeting.cleans);
+    let verdict = meet_by(alloc, files, base, &mut maker, run);
+    drop(maker);
+    verdict
 }
 
 // The same, and counts what was met.
@@ -260,13 +275,13 @@ fn count_meeting(
     alloc: Global,
     files: &Files,
     base: &Tables,
-    number: u64,
+    meeting: Meeting,
     run: &mut Run,
     met: &mut Met,
 ) -> Result<(), Trouble> {
-    let verdict = meet(alloc, files, base, number, run)?;
+    let verdict = meet(alloc, files, base, meeting, run)?;
     met.count(run);
-    met.judge(number, verdict);
+    met.judge(meeting.number, verdict);
     Ok(())
 }
 
@@ -274,11 +289,13 @@ fn meet_one(
     alloc: Global,
     files: &Files,
     base: &Tables,
-    number: u64,
+    meeting: Meeting,
     met: &mut Met,
 ) -> Result<(), Trouble> {
     let mut run = Run::new(alloc);
-    count_meeting(alloc, files, base, number, &mut run, met)
+    let counted = count_meeting(alloc, files, base, meeting, &mut run, met);
+    drop(run);
+    counted
 }
 
 /// Plays so many meetings over files with a database, of one number and those behind it, and judges each.
@@ -287,11 +304,15 @@ pub fn meet_all(
     files: &Files,
     base: &Tables,
     count: u64,
-    from: u64,
+    first: Meeting,
     met: &mut Met,
 ) -> Result<(), Trouble> {
+    let Meeting {
+        number: from,
+        cleans,
+    } = first;
     for number in from..from.saturating_add(count) {
-        meet_one(alloc, files, base, number, met)?;
+        meet_one(alloc, files, base, Meeting { number, cleans }, met)?;
     }
     Ok(())
 }
@@ -322,9 +343,12 @@ pub fn put_meeting(
     page: &mut Page,
     files: &Files,
     base: &Tables,
-    number: u64,
+    meeting: Meeting,
 ) -> Result<(), Trouble> {
-    let mut maker = Maker::new(alloc, number);
+    let mut maker = Maker::new(alloc, meeting.number, meeting.cleans);
     let mut run = Run::new(alloc);
-    put_by(alloc, page, files, base, &mut maker, &mut run)
+    let put = put_by(alloc, page, files, base, &mut maker, &mut run);
+    drop(run);
+    drop(maker);
+    put
 }

@@ -1,10 +1,12 @@
 // Plays the lines of a suite.
+use crate::cleaned::clean_files;
 use crate::files::{Files, files_of, fill, made};
 use crate::judged::{Tables, follow, nowhere, tables_of};
 use crate::lines::{add_each, add_line};
+use crate::lists::set;
 use crate::logged::put_records;
 use crate::looked::put_look;
-use crate::meetings::{Met, meet_all, put_meeting};
+use crate::meetings::{Meeting, Met, meet_all, put_meeting};
 use crate::page::Page;
 use crate::printed::put_turns;
 use crate::run::{Order, Run, play_files};
@@ -42,12 +44,14 @@ impl Player {
         self.page.add(name);
         self.page.add(b"\n");
         if self.fresh.file(File::Root).len() == 0 {
-            self.fresh = made(self.alloc)?;
+            let fresh = made(self.alloc)?;
+            set(&mut self.fresh, fresh);
         }
-        self.files.image = self.fresh.copy()?;
+        let image = self.fresh.copy()?;
+        set(&mut self.files.image, image);
         self.files.few = false;
-        self.base = Map::new(self.alloc);
-        self.lines = List::new(self.alloc);
+        set(&mut self.base, Map::new(self.alloc));
+        set(&mut self.lines, List::new(self.alloc));
         self.tail = usize::MAX;
         Ok(())
     }
@@ -61,7 +65,9 @@ impl Player {
     // Plays the script.
     fn play(&mut self, order: &[u8]) -> Result<(), Trouble> {
         let mut run = Run::new(self.alloc);
-        self.play_into(order, &mut run)
+        let played = self.play_into(order, &mut run);
+        drop(run);
+        played
     }
 
     fn play_into(&mut self, order: &[u8], run: &mut Run) -> Result<(), Trouble> {
@@ -71,7 +77,7 @@ impl Player {
         };
         let lines = self.take_lines();
         let disk = play_files(self.alloc, &self.files, lines, order, run)?;
-        self.files.image = files_of(disk);
+        set(&mut self.files.image, files_of(disk));
         let tail = mem::replace(&mut self.tail, usize::MAX);
         put_turns(self.alloc, &mut self.page, run, tail);
         self.judge(run)
@@ -80,14 +86,17 @@ impl Player {
     // Says whether the tape of a run is legal; the case goes on from where it leads.
     fn judge(&mut self, run: &Run) -> Result<(), Trouble> {
         let mut point = nowhere(self.alloc);
-        self.judge_at(run, &mut point)
+        let judged = self.judge_at(run, &mut point);
+        drop(point);
+        judged
     }
 
     // The same with a point that is where the tape leads then.
     fn judge_at(&mut self, run: &Run, point: &mut Point) -> Result<(), Trouble> {
         if follow(self.alloc, &self.base, run, point)? {
             self.page.add(b"legal\n");
-            self.base = tables_of(self.alloc, &point.state)?;
+            let tables = tables_of(self.alloc, &point.state)?;
+            set(&mut self.base, tables);
         } else {
             self.page.add(b"illegal\n");
         }
@@ -98,7 +107,9 @@ impl Player {
     fn play_stops(&mut self, order: Order, names: &[u8]) -> Result<(), Trouble> {
         let mut run = Run::new(self.alloc);
         let lines = self.take_lines();
-        self.play_stops_into(order, lines, names, &mut run)
+        let played = self.play_stops_into(order, lines, names, &mut run);
+        drop(run);
+        played
     }
 
     fn play_stops_into(
@@ -110,7 +121,7 @@ impl Player {
     ) -> Result<(), Trouble> {
         let disk = play_files(self.alloc, &self.files, lines, order, run)?;
         let looked = self.look_at_stops(&disk, run, names);
-        self.files.image = files_of(disk);
+        set(&mut self.files.image, files_of(disk));
         looked
     }
 
@@ -122,7 +133,9 @@ impl Player {
         };
         put_stops(self.alloc, &mut self.page, looking, run)?;
         let mut point = nowhere(self.alloc);
-        self.judge_stops(looking, run, &mut point)
+        let judged = self.judge_stops(looking, run, &mut point);
+        drop(point);
+        judged
     }
 
     // Says whether the tape is legal, and how many images are wrong.
@@ -154,7 +167,9 @@ impl Player {
     // Undoes what is open in the files.
     fn undo(&mut self) -> Result<(), Trouble> {
         let mut log = Gathered::new(self.alloc);
-        self.undo_by(&mut log)
+        let undone = self.undo_by(&mut log);
+        drop(log);
+        undone
     }
 
     fn undo_by(&mut self, log: &mut Gathered) -> Result<(), Trouble> {
@@ -165,9 +180,25 @@ impl Player {
         Ok(())
     }
 
-    fn meet(&mut self, count: u64, from: u64) -> Result<(), Trouble> {
+    // Goes over the files with the cleaner.
+    fn clean(&mut self) -> Result<(), Trouble> {
+        let mut log = Gathered::new(self.alloc);
+        let cleaned = self.clean_by(&mut log);
+        drop(log);
+        cleaned
+    }
+
+    fn clean_by(&mut self, log: &mut Gathered) -> Result<(), Trouble> {
+        let (from, to) = clean_files(self.alloc, &mut self.files, log)?;
+        self.page.add(b"clean ");
+        let _count = put_records(self.alloc, &mut self.page, log.visits(), from, to);
+        self.page.add(b"\n");
+        Ok(())
+    }
+
+    fn meet(&mut self, count: u64, first: Meeting) -> Result<(), Trouble> {
         let mut met = Met::new();
-        meet_all(self.alloc, &self.files, &self.base, count, from, &mut met)?;
+        meet_all(self.alloc, &self.files, &self.base, count, first, &mut met)?;
         met.put(&mut self.page);
         Ok(())
     }
@@ -201,14 +232,19 @@ impl Player {
             ),
             Step::Look { names } => self.look(names),
             Step::Undo => self.undo(),
+            Step::Clean => self.clean(),
             Step::Full => fill(self.alloc, &mut self.files),
-            Step::Meetings { count, from } => self.meet(count, from),
-            Step::Meeting { number } => put_meeting(
+            Step::Meetings {
+                count,
+                from: number,
+                cleans,
+            } => self.meet(count, Meeting { number, cleans }),
+            Step::Meeting { number, cleans } => put_meeting(
                 self.alloc,
                 &mut self.page,
                 &self.files,
                 &self.base,
-                number,
+                Meeting { number, cleans },
             ),
         }
     }

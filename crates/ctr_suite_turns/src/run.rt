@@ -4,6 +4,7 @@ ghost use Rattle.ctr_suite_turns.specs.Over.{AreOver};
 
 use crate::files::{Files, Mem, opened};
 use crate::fitting::lines_fit;
+use crate::lists::{given, set};
 use crate::logged::gather;
 use crate::opened::stuck_names;
 use crate::trouble::Trouble;
@@ -44,7 +45,7 @@ impl Run {
     }
 }
 
-/// In which order turns are taken, each a session's digit, and whether a hardening stands behind each.
+/// In which order turns are taken, each a session's digit or the cleaner's, and whether a hardening stands behind each.
 #[derive(Clone, Copy)]
 pub struct Order<'a> {
     pub digits: &'a [u8],
@@ -61,9 +62,9 @@ fn take_over(run: &mut Run, sessions: Sessions) {
         runners: _,
         tape,
     } = sessions;
-    run.stuck = stuck;
-    run.lines = script.lines;
-    run.tape = tape;
+    set(&mut run.stuck, stuck);
+    set(&mut run.lines, script.lines);
+    set(&mut run.tape, tape);
 }
 
 // Plays sessions that were made for that.
@@ -149,8 +150,5 @@ pub fn play_files(
     };
     let (mut disk, done) = play_on(alloc, store, lines, order, run);
     read_log(alloc, &mut disk, run);
-    match done {
-        Ok(()) => Ok(disk),
-        Err(trouble) => Err(trouble),
-    }
+    given(done, disk)
 }

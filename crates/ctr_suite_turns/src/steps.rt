@@ -1,5 +1,5 @@
 // Steps as they are written.
-use ctr_suite::{Words, split_word};
+use ctr_suite::{Words, named, split_word};
 
 /// What a line of a suite asks for.
 #[derive(Clone, Copy)]
@@ -41,21 +41,26 @@ pub enum Step<'a> {
     },
     /// Undoes what is open in them.
     Undo,
+    /// A pass of the cleaner over the files.
+    Clean,
+    /// Generated runs; whether the cleaner has turns in them.
     Meetings {
         count: u64,
         from: u64,
+        cleans: bool,
     },
     Meeting {
         number: u64,
+        cleans: bool,
     },
 }
 
-// An order of turns: digits of sessions, or - for none.
+// An order of turns: digits of sessions, and 0 for the cleaner; or - for none.
 fn order_of(word: &[u8]) -> Option<&[u8]> {
     if word == b"-".as_slice() {
         return Some(&word[word.len()..]);
     }
-    if word.iter().all(|byte| matches!(byte, b'1'..=b'8')) {
+    if word.iter().all(|byte| matches!(byte, b'0'..=b'8')) {
         Some(word)
     } else {
         None
@@ -87,11 +92,12 @@ fn each_of(rest: &[u8]) -> Option<Step> {
 }
 
 // `500 1`
-fn meetings_of(rest: &[u8]) -> Option<Step> {
+fn meetings_of(rest: &[u8], cleans: bool) -> Option<Step> {
     let mut words = Words::new(rest);
     let step = Step::Meetings {
         count: words.value(),
         from: words.value(),
+        cleans,
     };
     if words.are_right() { Some(step) } else { None }
 }
@@ -104,32 +110,80 @@ fn tail_of(rest: &[u8]) -> Option<Step> {
     if words.are_right() { Some(step) } else { None }
 }
 
-fn meeting_of(rest: &[u8]) -> Option<Step> {
+fn meeting_of(rest: &[u8], cleans: bool) -> Option<Step> {
     let mut words = Words::new(rest);
     let step = Step::Meeting {
         number: words.value(),
+        cleans,
     };
     if words.are_right() { Some(step) } else { None }
 }
 
+// The first words of steps.
+#[derive(Clone, Copy)]
+enum Verb {
+    Case,
+    Each,
+    Tail,
+    FewFrames,
+    Play,
+    Stops,
+    Hardened,
+    Look,
+    Undo,
+    Clean,
+    Full,
+    Meetings,
+    Meeting,
+    CleanedMeetings,
+    CleanedMeeting,
+}
+
+const VERBS: &[(&str, Verb)] = &[
+    ("case", Verb::Case),
+    ("each", Verb::Each),
+    ("tail", Verb::Tail),
+    ("few-frames", Verb::FewFrames),
+    ("play", Verb::Play),
+    ("stops", Verb::Stops),
+    ("hardened", Verb::Hardened),
+    ("look", Verb::Look),
+    ("undo", Verb::Undo),
+    ("clean", Verb::Clean),
+    ("full", Verb::Full),
+    ("meetings", Verb::Meetings),
+    ("meeting", Verb::Meeting),
+    ("cleaned-meetings", Verb::CleanedMeetings),
+    ("cleaned-meeting", Verb::CleanedMeeting),
+];
+
+fn play_of(rest: &[u8]) -> Option<Step> {
+    Some(Step::Play {
+        order: order_of(rest)?,
+    })
+}
+
 /// What a line says.
 pub fn step_of(line: &[u8]) -> Option<Step> {
-    let (verb, rest) = split_word(line);
+    let (word, rest) = split_word(line);
+    let Some(verb) = named(VERBS, word) else {
+        return Some(Step::Line { text: line });
+    };
     match verb {
-        b"case" => Some(Step::Case { name: rest }),
-        b"each" => each_of(rest),
-        b"tail" => tail_of(rest),
-        b"few-frames" => Some(Step::FewFrames),
-        b"play" => Some(Step::Play {
-            order: order_of(rest)?,
-        }),
-        b"stops" => stops_of(rest, false),
-        b"hardened" => stops_of(rest, true),
-        b"look" => Some(Step::Look { names: rest }),
-        b"undo" => Some(Step::Undo),
-        b"full" => Some(Step::Full),
-        b"meetings" => meetings_of(rest),
-        b"meeting" => meeting_of(rest),
-        _ => Some(Step::Line { text: line }),
+        Verb::Case => Some(Step::Case { name: rest }),
+        Verb::Each => each_of(rest),
+        Verb::Tail => tail_of(rest),
+        Verb::FewFrames => Some(Step::FewFrames),
+        Verb::Play => play_of(rest),
+        Verb::Stops => stops_of(rest, false),
+        Verb::Hardened => stops_of(rest, true),
+        Verb::Look => Some(Step::Look { names: rest }),
+        Verb::Undo => Some(Step::Undo),
+        Verb::Clean => Some(Step::Clean),
+        Verb::Full => Some(Step::Full),
+        Verb::Meetings => meetings_of(rest, false),
+        Verb::Meeting => meeting_of(rest, false),
+        Verb::CleanedMeetings => meetings_of(rest, true),
+        Verb::CleanedMeeting => meeting_of(rest, true),
     }
 }

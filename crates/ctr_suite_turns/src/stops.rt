@@ -43,7 +43,9 @@ fn files_after(looking: Looking, count: usize, k: u64) -> Result<Files, AllocErr
 // What a crash leaves of which nothing is written but what is synced.
 fn put_stop(alloc: Global, page: &mut Page, looking: Looking, moment: u64) -> Result<(), Trouble> {
     let files = files_after(looking, calls_by(looking.disk.calls(), moment), 0)?;
-    put_look(alloc, page, &files, looking.names)
+    let put = put_look(alloc, page, &files, looking.names);
+    drop(files);
+    put
 }
 
 /// Turns behind which a stop leaves the same.
@@ -133,6 +135,7 @@ pub fn put_stops(
     };
     let done = take_stops(alloc, page, &mut group, looking, run);
     group.put(page);
+    drop(group);
     done
 }
 
@@ -176,7 +179,9 @@ fn are_files_well(
     files: &Files,
 ) -> Result<bool, Trouble> {
     let mut found = Found::new(alloc);
-    are_found_well(alloc, judging, least, files, &mut found)
+    let well = are_found_well(alloc, judging, least, files, &mut found);
+    drop(found);
+    well
 }
 
 // The disk's moment after so many calls.
@@ -201,7 +206,9 @@ pub fn is_left_well(
     let files = files_after(judging.looking, count, k)?;
     let moment = moment_after(judging.looking.disk.calls(), count);
     let least = answered_by(&judging.run.tape, moment);
-    are_files_well(alloc, judging, least, &files)
+    let well = are_files_well(alloc, judging, least, &files);
+    drop(files);
+    well
 }
 
 // How many images of a stop after so many calls are wrong.

@@ -1,9 +1,11 @@
-// Turns of the sessions of a script, over a store, and what is noted of each.
+// Turns of the sessions of a script and of the cleaner, over a store, and what is noted of each.
 ghost use Rattle.std.specs.Prelude.{◌≡◌, ◌<◌, OnOk};
 ghost use Rattle.ctr_suite_turns.specs.Over.{AreOver};
 
+use crate::cleaned::{Beside, FIRST, clean_beside};
 use crate::files::Mem;
 use crate::trouble::Trouble;
+use ctr_cursor::Position;
 use ctr_exec::Sessions;
 use ctr_exec::control::flush;
 use ctr_tally::Steps;
@@ -14,12 +16,19 @@ use std::sync::ledger::{Blank, Ledger};
 /// How many turns a session takes at most from the end of the order to its own.
 const MOST_TURNS: u32 = 100_000;
 
+/// How many positions the cleaner passes in a turn at most.
+const POSITIONS: u32 = 32;
+
+/// The cleaner's digit in an order of turns.
+pub const CLEANER: u8 = b'0';
+
 /// A record has no number from this on.
 const LAST_NUMBER: u64 = (1 << 63) - 1;
 
 /// What is noted of a turn.
 #[derive(Clone, Copy)]
 pub struct Noted {
+    /// 0 is the cleaner.
     pub session: u8,
     /// Its session was over.
     pub over: bool,
@@ -92,7 +101,46 @@ fn take_turn<L: Ledger>(
     Ok(!over)
 }
 
-// Turns in this order, each a session's digit.
+// Steps of the cleaner up to its first record, at so many positions at most.
+fn clean(store: &mut Mem, sessions: &Sessions, at: &mut Position) -> Result<(), Trouble>
+    requires over { AreOver sessions.now store.old }
+    ensures over { OnOk result (AreOver sessions.now store.new) }
+{
+    for _ in 0..POSITIONS {
+        let beside = Beside {
+            locks: &sessions.locks,
+            low: sessions.txns.low_mark(store.meta()),
+        };
+        if clean_beside(store, beside, at)? {
+            return Ok(());
+        }
+    }
+    Ok(())
+}
+
+// A turn of the cleaner, and a hardening behind it where that is wanted.
+fn take_cleaning(
+    store: &mut Mem,
+    sessions: &Sessions,
+    at: &mut Position,
+    hardens: bool,
+    notes: &mut Vec<Noted>,
+) -> Result<(), Trouble>
+    requires over { AreOver sessions.now store.old }
+    ensures over { OnOk result (AreOver sessions.now store.new) }
+{
+    let noted = begun(store, sessions, 0);
+    clean(store, sessions, at)?;
+    let mut noted = ended(store, sessions, noted, false);
+    if hardens {
+        flush(store)?;
+        noted.moment = store.moment();
+    }
+    notes.push(noted)?;
+    Ok(())
+}
+
+// Turns in this order, each a session's digit or the cleaner's.
 fn take_order<L: Ledger>(
     alloc: Global,
     store: &mut Mem,
@@ -105,9 +153,14 @@ fn take_order<L: Ledger>(
     requires over { AreOver sessions.old store.old }
     ensures over { OnOk result (AreOver sessions.new store.new) }
 {
+    let mut at = FIRST;
     for digit in order {
-        let s = digit.saturating_sub(b'0');
-        let _goes_on = take_turn(alloc, store, sessions, s, hardens, steps, notes)?;
+        if *digit == CLEANER {
+            take_cleaning(store, sessions, &mut at, hardens, notes)?;
+        } else {
+            let s = digit.saturating_sub(b'0');
+            let _goes_on = take_turn(alloc, store, sessions, s, hardens, steps, notes)?;
+        }
     }
     Ok(())
 }
@@ -154,8 +207,8 @@ fn take_all<L: Ledger>(
     Ok(())
 }
 
-/// Plays the sessions over a store by turns in this order, each a session's digit, and then each to its end, in order of number; a
-/// hardening stands behind each turn where that is wanted.
+/// Plays the sessions over a store by turns in this order, each a session's digit or the cleaner's, and then each session to its end, in
+/// order of number; a hardening stands behind each turn where that is wanted.
 pub fn play<L: Ledger>(
     alloc: Global,
     store: &mut Mem,

@@ -1,8 +1,10 @@
 // Undo of what a stop left open, turn by turn.
 ghost use Rattle.std.specs.Prelude.{◌≡◌, ◌<◌, false, IsTrue, IfOk, OnOk};
 ghost use Rattle.ctr_walk.specs.OneRecord.{HasRoomForOne};
+ghost use Rattle.ctr_suite_turns.specs.Over.{LeavesBeside};
 
 use crate::files::{Files, Mem, files_of, opened};
+use crate::lists::set;
 use crate::logged::gather;
 use crate::trouble::Trouble;
 use ctr_disk::StoreFault;
@@ -22,7 +24,7 @@ const MOST_TURNS: u32 = 100_000;
 // Takes turns for room, at most so many, until there is room.
 fn make_room(store: &mut Mem, most: u32) -> Result<(), StoreFault>
     requires going { store.old.stopped ≡ false }
-    ensures going { OnOk result (store.new.stopped ≡ false) }
+    ensures beside { OnOk result (LeavesBeside store.old store.new) }
 {
     if most == 0 || store.room() {
         return Ok(());
@@ -31,14 +33,14 @@ fn make_room(store: &mut Mem, most: u32) -> Result<(), StoreFault>
     make_room(store, most - 1)
 }
 
-// Makes room for a record more; whether there is.
-fn ready(store: &mut Mem) -> Result<bool, StoreFault>
+/// Makes room for a record more, which may add so many items to the secondary log; whether there is.
+pub fn ready(store: &mut Mem, items: usize) -> Result<bool, StoreFault>
     requires going { store.old.stopped ≡ false }
-    ensures going { OnOk result (store.new.stopped ≡ false) }
-    ensures room { IfOk result (λ is. IsTrue is → HasRoomForOne 0 0 store.new) }
+    ensures beside { OnOk result (LeavesBeside store.old store.new) }
+    ensures room { IfOk result (λ is. IsTrue is → HasRoomForOne 0 items store.new) }
 {
     make_room(store, TURNS)?;
-    if store.reserve(0, 0).is_err() {
+    if store.reserve(0, items).is_err() {
         return Ok(false);
     }
     Ok(store.room() && store.next() < 1 << 62)
@@ -53,7 +55,7 @@ fn take_turn<L: Ledger>(
     requires going { store.old.stopped ≡ false }
     ensures going { OnOk result (store.new.stopped ≡ false) }
 {
-    if !ready(store)? {
+    if !ready(store, 0)? {
         return Err(Trouble::OutOfMemory);
     }
     Ok(turn(store, list, steps)? == UndoTurn::Undone)
@@ -125,6 +127,6 @@ pub fn undo_files(
     };
     let (mut disk, done) = undo_on(alloc, store);
     read_log(alloc, &mut disk, log);
-    files.image = files_of(disk);
+    set(&mut files.image, files_of(disk));
     done
 }
