@@ -17,7 +17,8 @@ abbrev pub IsFirstFrom : (ℕ → Bool) → Area → Place → Place → Type 0
 IsFirstFrom passes area from q =
     IsFirstPassing passes area.older q (places_along older_bound area.older from)
 
--- It is, and another one is behind it; or none is.
+-- This one is the first of a chain whose version passes, and another one is behind it; or no such
+-- one has another behind it.
 abbrev pub IsCutAlong : (ℕ → Bool) → Area → Place → Option Place → Type 0
 IsCutAlong passes area from (Some q) =
     IsFirstFrom passes area from q × ((area.older q).pointer.page ≢ 0)
@@ -49,7 +50,7 @@ GoesBehind low locks e at s true = (((area_in s).slot at).used ≡ true)
     × PreviousStays (passes_below low s.tables) ((area_in s).slot at).previous
 GoesBehind low locks e at s false = HasNoCut low locks e at s
 
--- Its chain may be cut behind this one, and its row isn't locked; or behind none.
+-- The chain of a slot may be cut behind this one, and its row isn't locked; or behind none.
 abbrev pub CutsBehind : ℕ → Locks → ℕ → Place → State → Option Place → Type 0
 CutsBehind low locks e at s (Some q) =
     IsUnlocked locks e ((area_in s).slot at).key × OwesCut low e at s q

@@ -15,7 +15,8 @@ abbrev pub HasNoForget : ℕ → Tables → Type 0
 HasNoForget place tables = (x heads : ℕ) → slice_get tables.aborted place ≡ Some (x, heads)
     → OwedByForget tables x → ⊥
 
--- This transaction at a place of the map may be forgotten; or none there may be.
+-- The transaction at a place of the aborted transaction map is this one, and may be forgotten; or
+-- none at the place may be.
 abbrev pub IsWithoutHead : ℕ → Tables → Option ℕ → Type 0
 IsWithoutHead place tables (Some x) =
     (slice_get tables.aborted place ≡ Some (x, 0)) × OwedByForget tables x

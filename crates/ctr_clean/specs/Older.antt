@@ -43,11 +43,11 @@ IsHadBy e key q s false = (at : Place) → IsUsedSlot (area_in s) e at
 abbrev pub IsLooseIn : ℕ → Place → State → Type 0
 IsLooseIn e q s = IsLoose (area_in s) e q ((area_in s).older q)
 
--- it may not, unless its row is locked
+-- the version entry at a place of a table may not be freed, unless its row is locked
 abbrev pub HasNoLoose : Locks → ℕ → Place → State → Type 0
 HasNoLoose locks e q s = IsUnlocked locks e ((area_in s).older q).key → IsLooseIn e q s → ⊥
 
--- It may be freed, and its row isn't locked; or it may not.
+-- The version entry at a place may be freed, and its row isn't locked; or it may not.
 abbrev pub LooseAt : Locks → ℕ → Place → State → Bool → Type 0
 LooseAt locks e q s true = IsUnlocked locks e ((area_in s).older q).key × IsLooseIn e q s
 LooseAt locks e q s false = HasNoLoose locks e q s

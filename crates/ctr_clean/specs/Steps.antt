@@ -19,7 +19,7 @@ use Rattle.ctr_clean.specs.declared.choosing.SlotTask.TheVariants as task
 use Rattle.ctr_clean.specs.declared.steps.Step.{Step}
 use Rattle.ctr_clean.specs.declared.steps.Step.TheVariants.{Cleaned, Nothing}
 
--- what sessions have locked
+-- which keys sessions have locked, in which entries of the catalog
 abbrev pub Locks : Type 0
 Locks = List (ℕ × LocksOfSession)
 
@@ -92,14 +92,14 @@ TaskAt low locks e at s task.Revert = GoesAt locks e at s true
 TaskAt low locks e at s (task.Trim way) = ChoosesAt low locks e at s (Some way)
 
 -- The action is of the slot at a place: its head is taken, or it is trimmed.
-abbrev pub IsOfSlot : ℕ → Place → Action → Type 0
-IsOfSlot e at (Reverts f b way) = (f ≡ e) × (b ≡ at)
-IsOfSlot e at (Trims passes f b way) = (f ≡ e) × (b ≡ at)
-IsOfSlot e at a = ⊥
+abbrev pub IsDoneAt : ℕ → Place → Action → Type 0
+IsDoneAt e at (Reverts f b way) = (f ≡ e) × (b ≡ at)
+IsDoneAt e at (Trims passes f b way) = (f ≡ e) × (b ≡ at)
+IsDoneAt e at a = ⊥
 
 -- What a step did at a slot of a live table.
 abbrev pub CleansSlot : ℕ → Locks → ℕ → Place → State → State → Step → Type 0
-CleansSlot low locks e at s t Cleaned = (one : CleansOne low locks s t) × IsOfSlot e at one.action
+CleansSlot low locks e at s t Cleaned = (one : CleansOne low locks s t) × IsDoneAt e at one.action
 CleansSlot low locks e at s t Nothing =
     (t ≡ s) × HasNoRevert locks e at s × HasNoTrim low locks e at s
 

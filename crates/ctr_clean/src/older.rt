@@ -203,8 +203,7 @@ pub fn free_older_at<D: Disk, O: Origin>(
     place: Place,
 ) -> Result<Step, StoreFault>
     requires room { HasRoomForOne 0 0 store.old }
-    requires counted { place.page < store.old.now.counted }
-    requires there { entry < 32 }
+    requires there { (entry < 32) × (place.page < store.old.now.counted) }
     // It logs one record, or reads pages.
     ensures turns { Turns O.first D.Disk store.old store.new result }
     ensures numbers { IfOk result (λ t. store.new.next ≡ next_stepped t store.old.next) }

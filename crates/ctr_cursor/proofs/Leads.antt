@@ -31,8 +31,8 @@ use Rattle.ctr_undamaged.proofs.Inside.{table_inside, on_bucket, on_versions}
 use Rattle.ctr_reading.proofs.Gathers.{eight_buckets}
 use Rattle.ctr_cursor.specs.declared.position.Position.{Position}
 use Rattle.ctr_cursor.specs.declared.position.Position.TheVariants.{Entry, Slot, Kept, Aborted}
-use Rattle.ctr_cursor.specs.Pass.{first_on, place_behind, at_or, aborted_from, behind_entry, kept_of, slots_from, buckets_from, next_position}
-use Rattle.ctr_cursor.specs.Standing.{IsInChain, IsPlaceIn, IsPosition, IsWithin}
+use Rattle.ctr_cursor.specs.Pass.{first_on, place_behind, at_or, aborted_from, behind_pages_of, kept_of, slots_from, buckets_from, next_position}
+use Rattle.ctr_cursor.specs.Standing.{IsInChain, IsPlaceIn, IsPosition, IsCountedPosition}
 use Rattle.ctr_cursor.proofs.Passing.{tail_of, drop_more}
 use Rattle.ctr_cursor.proofs.Rooms.{entry_few, room_some}
 use Rattle.ctr_cursor.proofs.Stays.{of_table, is_there, of_entry, no_chain, free_none}
@@ -132,7 +132,7 @@ module _ (s : State) (sound : IsDatabaseState s) where
       (λ some. let e = sym (ap (λ b. cond b (Some (Aborted n)) None) some) ∙ is in let same : Aborted n ≡ y = cc in subst (λ z. IsPosition z (site_of s)) same tt)
       (λ none. let e = sym (ap (λ b. cond b (Some (Aborted n)) None) none) ∙ is in absurd cc)
 
-  entry_leads : (e : ℕ) (y : Position) → behind_entry e s.tables ≡ Some y → IsPosition y (site_of s)
+  entry_leads : (e : ℕ) (y : Position) → behind_pages_of e s.tables ≡ Some y → IsPosition y (site_of s)
   entry_leads e y is = known (nat_lt (e + 1) 32)
       (λ more. let f = sym (ap (λ b. cond b (Some (Entry (e + 1))) (aborted_from 0 s.tables)) more) ∙ is in let same : Entry (e + 1) ≡ y = cc in subst (λ z. IsPosition z (site_of s)) same (below (e + 1) 32 more))
       (λ last. aborted_is 0 y (sym (ap (λ b. cond b (Some (Entry (e + 1))) (aborted_from 0 s.tables)) last) ∙ is))
@@ -143,7 +143,7 @@ module _ (s : State) (sound : IsDatabaseState s) where
       let its = on_one (area.firsts e).versions here.0 here.1 in
       subst (λ z. IsPosition z (site_of s)) here.2 (lt, subst (λ (r : Place). IsPlaceIn (Versions e) r area) its.1 (first_place (Versions e) (area.firsts e).versions refl its.0)))
       (λ there. entry_leads e y there.1)
-      (at_one (λ at. Kept e at) (behind_entry e s.tables) (first_on (area.firsts e).versions) y is)
+      (at_one (λ at. Kept e at) (behind_pages_of e s.tables) (first_on (area.firsts e).versions) y is)
 
   slots_lead : (e b : ℕ) (ps : List ℕ) (y : Position) → e < 32 → ps ≡ drop b (area.firsts e).buckets → slots_from e b ps (site_of s) ≡ Some y → IsPosition y (site_of s)
   slots_lead e b [] y lt are is = kept_leads e y lt is
@@ -172,10 +172,10 @@ module _ (s : State) (sound : IsDatabaseState s) where
   leads (Kept e at) y its is = ⊎_elim
       (λ (here : (q : Place) × (place_behind area at ≡ Some q) × (Kept e q ≡ y)). subst (λ z. IsPosition z (site_of s)) here.2 (its.0, next_place (Versions e) at here.0 its.1 here.1))
       (λ there. entry_leads e y there.1)
-      (at_one (λ q. Kept e q) (behind_entry e s.tables) (place_behind area at) y is)
+      (at_one (λ q. Kept e q) (behind_pages_of e s.tables) (place_behind area at) y is)
   leads (Aborted n) y its is = aborted_is (n + 1) y is
 
-  pub within : (x : Position) → IsPosition x (site_of s) → IsWithin s.counted x
+  pub within : (x : Position) → IsPosition x (site_of s) → IsCountedPosition s.counted x
   within (Entry e) its = its
   within (Slot e b at) its = (its.0, (on_bucket s.counted s.tables area bounds sound.sound e b at.page (is_there area.header pages_bound at.page b (area.firsts e).buckets its.1.0) its.1.0).1)
   within (Kept e at) its = (its.0, (on_versions s.counted s.tables area bounds sound.sound e at.page its.1.0).1)

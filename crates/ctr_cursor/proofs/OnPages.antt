@@ -8,7 +8,7 @@ use Rattle.ctr_page.specs.declared.checks.Chain.TheVariants.{Rows, Versions}
 use Rattle.ctr_page.specs.declared.walk.BadChain.{BadChain}
 use Rattle.ctr_page.specs.declared.walk.BadChain.TheVariants.{OnPage, TooLong}
 use Rattle.ctr_page.specs.Columns.{kinds_width}
-use Rattle.ctr_page.specs.Damage.{header_check}
+use Rattle.ctr_page.specs.Damage.{chain_kind, header_check}
 use Rattle.ctr_page.specs.Places.{room_for}
 use Rattle.ctr_walk.specs.redo_States.{State}
 use Rattle.ctr_area.specs.Areas.{Firsts, Area}
@@ -31,17 +31,17 @@ use Rattle.ctr_undamaged.proofs.Inside.{table_inside, on_versions}
 use Rattle.ctr_undamaged.proofs.There.{table_passes}
 use Rattle.ctr_reading.specs.Gathering.{NextSaid}
 use Rattle.ctr_reading.proofs.Places.{page_header, page_table}
-use Rattle.ctr_cursor.specs.Standing.{kind_of, IsInChain}
+use Rattle.ctr_cursor.specs.Standing.{IsInChain}
 use Rattle.ctr_cursor.proofs.Stays.{of_table}
 
 -- ---- what a page says
 
 -- how many places it has, by the width of its table's rows and the size of a place
-pub room_is : (chain : Chain) (counted : ℕ) (pages : ℕ → List ℕ) (p : ℕ) (t : TableOf) (w size n : ℕ) → TableSaid (kind_of chain) counted pages p (Ok t)
-    → w ≡ kinds_width (kinds_said t) → size ≡ size_of_kind (kind_of chain == 1) w → n ≡ room_for size → (3 ≤ p) × (n ≡ (area_of pages).room p)
+pub room_is : (chain : Chain) (counted : ℕ) (pages : ℕ → List ℕ) (p : ℕ) (t : TableOf) (w size n : ℕ) → TableSaid (chain_kind chain) counted pages p (Ok t)
+    → w ≡ kinds_width (kinds_said t) → size ≡ size_of_kind (chain_kind chain == 1) w → n ≡ room_for size → (3 ≤ p) × (n ≡ (area_of pages).room p)
 room_is chain counted pages p t w size n said wide long fits =
-    let page = page_of_table (kind_of chain) counted pages p t said in
-    (page.behind, fits ∙ ap room_for long ∙ ap (λ v. room_for (size_of_kind (kind_of chain == 1) v)) (wide ∙ page.wide) ∙ sym (ap (λ k. room_for (size_of_kind (k == 1) (width_on pages p))) page.of_kind))
+    let page = page_of_table (chain_kind chain) counted pages p t said in
+    (page.behind, fits ∙ ap room_for long ∙ ap (λ v. room_for (size_of_kind (chain_kind chain == 1) v)) (wide ∙ page.wide) ∙ sym (ap (λ k. room_for (size_of_kind (k == 1) (width_on pages p))) page.of_kind))
 
 -- ---- which passes, wherever a chain leads
 
@@ -79,16 +79,16 @@ module _ (s : State) (sound : IsDatabaseState s) where
   header_good (Rows e b) p on = page_header (Rows e b) p s (record { sound = sound; rows = tt; on = on })
   header_good (Versions e) p on = versions_header e p on
 
-  pub table_good : (chain : Chain) (p : ℕ) → IsInChain chain p area → table_check (kind_of chain) s.counted pages p ≡ Ok tt
+  pub table_good : (chain : Chain) (p : ℕ) → IsInChain chain p area → table_check (chain_kind chain) s.counted pages p ≡ Ok tt
   table_good (Rows e b) p on = page_table (Rows e b) p s (record { sound = sound; rows = tt; on = on })
   table_good (Versions e) p on = versions_table e p on
 
   -- ---- so no damage is told
 
-  pub table_undamaged : (told : BadChain → StoreFault) (chain : Chain) (p : ℕ) → IsInChain chain p area → (r : Result TableOf StoreFault) → EndsTold told (TableSaid (kind_of chain) s.counted pages p) r → IfErr r (λ e. e ≡ Fault)
+  pub table_undamaged : (told : BadChain → StoreFault) (chain : Chain) (p : ℕ) → IsInChain chain p area → (r : Result TableOf StoreFault) → EndsTold told (TableSaid (chain_kind chain) s.counted pages p) r → IfErr r (λ e. e ≡ Fault)
   table_undamaged told chain p on (Ok t) ends = tt
   table_undamaged told chain p on (Err Fault) ends = refl
-  table_undamaged told chain p on (Err (Damaged d)) (bad, ends, is) = absurd (passes_or_fails (table_check (kind_of chain) s.counted pages p) tt bad (table_good chain p on) ends)
+  table_undamaged told chain p on (Err (Damaged d)) (bad, ends, is) = absurd (passes_or_fails (table_check (chain_kind chain) s.counted pages p) tt bad (table_good chain p on) ends)
 
   pub next_undamaged : (told : BadChain → StoreFault) (chain : Chain) (p : ℕ) → IsInChain chain p area → (r : Result ℕ StoreFault) → EndsTold told (EndsOnPage p (NextSaid chain s.counted (pages p))) r → IfErr r (λ e. e ≡ Fault)
   next_undamaged told chain p on (Ok n) ends = tt

@@ -13,7 +13,7 @@ use Rattle.ctr_record_laws.proofs.Members.{among_front, among_rest, among_parts}
 use Rattle.ctr_actions.specs.Sites.{Site}
 use Rattle.ctr_cursor.specs.declared.position.Position.{Position}
 use Rattle.ctr_cursor.specs.declared.position.Position.TheVariants.{Entry, Slot, Kept, Aborted}
-use Rattle.ctr_cursor.specs.Pass.{first_on, place_behind, at_or, aborted_from, behind_entry, kept_of, slots_from, buckets_from, next_position, start, GoesBy, IsWholePass, HoldsEverywhere}
+use Rattle.ctr_cursor.specs.Pass.{first_on, place_behind, at_or, aborted_from, behind_pages_of, kept_of, slots_from, buckets_from, next_position, start, GoesBy, IsWholePass, HoldsEverywhere}
 
 -- ---- one stretch behind another
 
@@ -137,12 +137,12 @@ module _ (s : Site) (readable : AreReadable s.area) where
     pub slots : (at : Place) → IsAmong at (slot_places s.area e) → (k : ℕ) × IsAmong (Slot e k at) qs
     pub kept : (at : Place) → IsAmong at (older_places s.area e) → IsAmong (Kept e at) qs
 
-  entry_goes : (e : ℕ) → (qs : List Position) × GoesBy s (Some (Entry e)) qs (behind_entry e s.tables) × HasEntry e qs
+  entry_goes : (e : ℕ) → (qs : List Position) × GoesBy s (Some (Entry e)) qs (behind_pages_of e s.tables) × HasEntry e qs
   entry_goes e =
       let rows = buckets_go e 0 (s.area.firsts e).buckets refl (readable.rows e) in
-      let older = chain_goes s (λ at. Kept e at) (behind_entry e s.tables) (λ at. refl) (IsOfVersions e) (pages_from pages_bound s.area.header (s.area.firsts e).versions) (s.area.firsts e).versions (readable.versions e) refl in (
+      let older = chain_goes s (λ at. Kept e at) (behind_pages_of e s.tables) (λ at. refl) (IsOfVersions e) (pages_from pages_bound s.area.header (s.area.firsts e).versions) (s.area.firsts e).versions (readable.versions e) refl in (
         Entry e ∷ (rows.0 ++ older.0),
-        (refl, goes_on s (buckets_from e 0 s) (kept_of e s) (behind_entry e s.tables) rows.0 older.0 rows.1 older.1),
+        (refl, goes_on s (buckets_from e 0 s) (kept_of e s) (behind_pages_of e s.tables) rows.0 older.0 rows.1 older.1),
         record {
           entry = inl refl;
           slots = λ at in_. let found = rows.2 at in_ in (found.0, inr (among_front (Slot e found.0 at) rows.0 older.0 found.1));
@@ -174,7 +174,7 @@ module _ (s : Site) (readable : AreReadable s.area) where
       let rest = entries_go n (e + 1) (omega arith) in (
         here.0 ++ rest.0,
         subst (λ x. GoesBy s x (here.0 ++ rest.0) (aborted_from 0 s.tables)) (sym (ap (λ b. cond b (Some (Entry e)) (aborted_from 0 s.tables)) (lt-ltb e 32 (omega arith))))
-            (goes_on s (Some (Entry e)) (behind_entry e s.tables) (aborted_from 0 s.tables) here.0 rest.0 here.1 rest.1),
+            (goes_on s (Some (Entry e)) (behind_pages_of e s.tables) (aborted_from 0 s.tables) here.0 rest.0 here.1 rest.1),
         λ f from_ lt. ⊎_elim
             (λ before. has_front f here.0 rest.0 (subst (λ g. HasEntry g here.0) (omega arith) here.2))
             (λ later. has_rest f here.0 rest.0 (rest.2 f later lt))

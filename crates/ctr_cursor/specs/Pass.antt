@@ -36,13 +36,13 @@ aborted_from n tables = if nat_lt n (length tables.aborted) then Some (Aborted n
 
 -- behind all pages of an entry: the next of the 32 entries; behind the last one the aborted
 -- transactions
-abbrev pub behind_entry : ℕ → Tables → Option Position
-behind_entry e tables = if nat_lt (e + 1) 32 then Some (Entry (e + 1)) else aborted_from 0 tables
+abbrev pub behind_pages_of : ℕ → Tables → Option Position
+behind_pages_of e tables = if nat_lt (e + 1) 32 then Some (Entry (e + 1)) else aborted_from 0 tables
 
 -- the first version entry of an entry, or what is behind its pages
 abbrev pub kept_of : ℕ → Site → Option Position
 kept_of e s =
-    at_or (λ at. Kept e at) (behind_entry e s.tables) (first_on (s.area.firsts e).versions)
+    at_or (λ at. Kept e at) (behind_pages_of e s.tables) (first_on (s.area.firsts e).versions)
 
 -- The first slot of the first bucket that has a page, of buckets with these first pages, of which
 -- the first has this number; behind all buckets come the version entries.
@@ -51,7 +51,7 @@ slots_from e bucket [] s = kept_of e s
 slots_from e bucket (p ∷ ps) s =
     at_or (λ at. Slot e bucket at) (slots_from e (bucket + 1) ps s) (first_on p)
 
--- the same of an entry, from a bucket on
+-- the first slot of an entry's buckets from one of them on, or what is behind them
 abbrev pub buckets_from : ℕ → ℕ → Site → Option Position
 buckets_from e bucket s = slots_from e bucket (drop bucket (s.area.firsts e).buckets) s
 
@@ -63,12 +63,12 @@ next_position s (Entry e) = buckets_from e 0 s
 next_position s (Slot e bucket at) =
     at_or (λ q. Slot e bucket q) (buckets_from e (bucket + 1) s) (place_behind s.area at)
 next_position s (Kept e at) =
-    at_or (λ q. Kept e q) (behind_entry e s.tables) (place_behind s.area at)
+    at_or (λ q. Kept e q) (behind_pages_of e s.tables) (place_behind s.area at)
 next_position s (Aborted n) = aborted_from (n + 1) s.tables
 
 -- ---- a pass
 
--- where a pass starts
+-- the first position of a pass: entry 0 of the catalog
 abbrev pub start : Position
 start = Entry 0
 
@@ -82,8 +82,8 @@ GoesBy s x (p ∷ ps) y = (x ≡ Some p) × GoesBy s (next_position s p) ps y
 abbrev pub IsWholePass : Site → List Position → Type 0
 IsWholePass s positions = GoesBy s (Some start) positions None
 
--- It holds at every entry of the catalog, at every slot and every version entry of each, and at
--- every aborted transaction.
+-- What is said of positions holds at every entry of the catalog, at every slot and every version
+-- entry of each, and at every aborted transaction.
 pub record HoldsEverywhere (Holds : Position → Type 0) (s : Site) : Type 0 where
   pub entries : (e : ℕ) → e < 32 → Holds (Entry e)
   pub slots : (e : ℕ) (at : Place) → e < 32 → IsAmong at (slot_places s.area e)

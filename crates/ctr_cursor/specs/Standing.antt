@@ -12,11 +12,6 @@ use Rattle.ctr_walk.specs.Tables.{IsChain, first_of_chain}
 use Rattle.ctr_cursor.specs.declared.position.Position.{Position}
 use Rattle.ctr_cursor.specs.declared.position.Position.TheVariants.{Entry, Slot, Kept, Aborted}
 
--- the kind of the pages of a chain
-abbrev pub kind_of : Chain → ℕ
-kind_of (Rows e bucket) = 1
-kind_of (Versions e) = 2
-
 -- A page stands in a chain.
 abbrev pub IsInChain : Chain → ℕ → Area → Type 0
 IsInChain chain p area = IsAmong p (pages_from pages_bound area.header (first_of_chain area chain))
@@ -34,11 +29,11 @@ IsPosition (Kept e at) s = IsChain (Versions e) × IsPlaceIn (Versions e) at s.a
 IsPosition (Aborted n) s = Unit {0}
 
 -- What a position names is there: one of the 32 entries, one of the 8 buckets, a counted page.
-abbrev pub IsWithin : ℕ → Position → Type 0
-IsWithin counted (Entry e) = e < 32
-IsWithin counted (Slot e bucket at) = IsChain (Rows e bucket) × (at.page < counted)
-IsWithin counted (Kept e at) = IsChain (Versions e) × (at.page < counted)
-IsWithin counted (Aborted n) = Unit {0}
+abbrev pub IsCountedPosition : ℕ → Position → Type 0
+IsCountedPosition counted (Entry e) = e < 32
+IsCountedPosition counted (Slot e bucket at) = IsChain (Rows e bucket) × (at.page < counted)
+IsCountedPosition counted (Kept e at) = IsChain (Versions e) × (at.page < counted)
+IsCountedPosition counted (Aborted n) = Unit {0}
 
 -- an action takes a page from a chain
 abbrev pub TakesFrom : Action → Chain → ℕ → Type 0
@@ -46,7 +41,7 @@ TakesFrom (Unlinks q e bucket) chain p = (chain ≡ Rows e bucket) × (q ≡ p)
 TakesFrom (UnlinksOlder q e) chain p = (chain ≡ Versions e) × (q ≡ p)
 TakesFrom a chain p = ⊥
 
--- it takes the page of a position from its chain
+-- an action takes the page of a position from its chain
 abbrev pub TakesPage : Action → Position → Type 0
 TakesPage a (Entry e) = ⊥
 TakesPage a (Slot e bucket at) = TakesFrom a (Rows e bucket) at.page

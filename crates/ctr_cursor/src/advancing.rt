@@ -5,8 +5,8 @@ ghost use Rattle.ctr_disk.specs.declared.fault.StoreFault.TheVariants.{Fault};
 ghost use Rattle.ctr_actions.specs.Sites.{site_of};
 ghost use Rattle.ctr_walk.specs.record_effects_Standing.{IsDatabaseState};
 ghost use Rattle.ctr_walk.specs.Damage.{ReadsPages};
-ghost use Rattle.ctr_cursor.specs.Pass.{aborted_from as aborted_at, behind_entry as entry_next, kept_of, buckets_from, next_position};
-ghost use Rattle.ctr_cursor.specs.Standing.{IsPosition, IsWithin};
+ghost use Rattle.ctr_cursor.specs.Pass.{aborted_from as aborted_at, behind_pages_of as entry_next, kept_of, buckets_from, next_position};
+ghost use Rattle.ctr_cursor.specs.Standing.{IsPosition, IsCountedPosition};
 
 use crate::places::{first_place, place_behind};
 use crate::position::Position;
@@ -43,7 +43,7 @@ fn aborted_behind(meta: &Meta, nth: usize) -> Option<Position>
 }
 
 /// What is behind all pages of an entry.
-fn behind_entry(meta: &Meta, entry: u8) -> Option<Position>
+fn behind_pages_of(meta: &Meta, entry: u8) -> Option<Position>
     requires there { entry < 32 }
     ensures { result ≡ entry_next entry meta.now.tables }
 {
@@ -62,12 +62,12 @@ fn kept_from<D: Disk, O: Origin>(
     requires there { entry < 32 }
     ensures next { WhereSound O.first D.Disk (IfOk result (λ x. x ≡ kept_of entry (site_of store.old.now))) }
     ensures refused { WhereSound O.first D.Disk (IsDatabaseState store.old.now → IfErr result (λ e. e ≡ Fault)) }
-    ensures inside { IfOk result (λ x. IfSome x (IsWithin store.old.now.counted)) }
+    ensures inside { IfOk result (λ x. IfSome x (IsCountedPosition store.old.now.counted)) }
     ensures leaves { ReadsPages O.first D.Disk store.old store.new result }
 {
     match first_place(store, Chain::Versions { entry }) {
         Err(fault) => Err(fault),
-        Ok(None) => Ok(behind_entry(store.meta(), entry)),
+        Ok(None) => Ok(behind_pages_of(store.meta(), entry)),
         Ok(Some(place)) => Ok(Some(Position::Kept { entry, place })),
     }
 }
@@ -82,7 +82,7 @@ fn slots_from<D: Disk, O: Origin>(
     requires there { entry < 32 }
     ensures next { WhereSound O.first D.Disk (IfOk result (λ x. x ≡ buckets_from entry first (site_of store.old.now))) }
     ensures refused { WhereSound O.first D.Disk (IsDatabaseState store.old.now → IfErr result (λ e. e ≡ Fault)) }
-    ensures inside { IfOk result (λ x. IfSome x (IsWithin store.old.now.counted)) }
+    ensures inside { IfOk result (λ x. IfSome x (IsCountedPosition store.old.now.counted)) }
     ensures leaves { ReadsPages O.first D.Disk store.old store.new result }
 {
     store.rests();
@@ -109,11 +109,11 @@ pub fn advance<D: Disk, O: Origin>(
     position: Position,
 ) -> Result<Option<Position>, StoreFault>
     requires going { store.old.stopped ≡ false }
-    requires within { IsWithin store.old.now.counted position }
+    requires within { IsCountedPosition store.old.now.counted position }
     ensures next { WhereSound O.first D.Disk (IfOk result (λ x. x ≡ next_position (site_of store.old.now) position)) }
     // At a position of a state that may be a database's it is refused for no other cause than that the disk failed.
     ensures refused { WhereSound O.first D.Disk (IsDatabaseState store.old.now → IsPosition position (site_of store.old.now) → IfErr result (λ e. e ≡ Fault)) }
-    ensures inside { IfOk result (λ x. IfSome x (IsWithin store.old.now.counted)) }
+    ensures inside { IfOk result (λ x. IfSome x (IsCountedPosition store.old.now.counted)) }
     ensures leaves { ReadsPages O.first D.Disk store.old store.new result }
 {
     store.rests();
@@ -135,7 +135,7 @@ pub fn advance<D: Disk, O: Origin>(
         Position::Kept { entry, place } => {
             match place_behind(store, Chain::Versions { entry }, place) {
                 Err(fault) => Err(fault),
-                Ok(None) => Ok(behind_entry(store.meta(), entry)),
+                Ok(None) => Ok(behind_pages_of(store.meta(), entry)),
                 Ok(Some(place)) => Ok(Some(Position::Kept { entry, place })),
             }
         }

@@ -8,7 +8,7 @@ ghost use Rattle.ctr_walk.specs.record_effects_Standing.{IsDatabaseState};
 ghost use Rattle.ctr_actions.specs.Sites.{Site, IsSoundSite, site_of};
 ghost use Rattle.ctr_cursor.specs.declared.position.Position.{Position as PositionOf};
 ghost use Rattle.ctr_cursor.specs.declared.position.Position.TheVariants.{Slot, Kept};
-ghost use Rattle.ctr_cursor.specs.Standing.{IsPosition, IsWithin};
+ghost use Rattle.ctr_cursor.specs.Standing.{IsPosition, IsCountedPosition};
 ghost use Rattle.ctr_cursor.specs.Pass.{start, next_position, GoesBy, IsWholePass, HoldsEverywhere};
 
 /// A whole pass over a sound site comes by every place; so what holds at the start, and at each position that comes behind one at which it
@@ -30,7 +30,7 @@ pub fn a_pass_goes_on()
 pub fn a_pass_goes_from_position_to_position()
     ensures start { (s : Site) → IsPosition start s }
     ensures leads { (s : State) (x y : PositionOf) → IsDatabaseState s → IsPosition x (site_of s) → next_position (site_of s) x ≡ Some y → IsPosition y (site_of s) }
-    ensures within { (s : State) (x : PositionOf) → IsDatabaseState s → IsPosition x (site_of s) → IsWithin s.counted x }
+    ensures within { (s : State) (x : PositionOf) → IsDatabaseState s → IsPosition x (site_of s) → IsCountedPosition s.counted x }
     ensures slots { (s : Site) (e bucket : ℕ) (at : PlaceOf) → IsPosition (Slot e bucket at) s → IsAmong at (slot_places s.area e) }
     ensures kept { (s : Site) (e : ℕ) (at : PlaceOf) → IsPosition (Kept e at) s → IsAmong at (older_places s.area e) }
 {}

@@ -2,6 +2,7 @@
 ghost use Rattle.std.specs.Prelude.{◌≡◌, ◌≢◌, ◌≤◌, ◌<◌, ◌==◌, false, IfErr, IfOk, IfSome};
 ghost use Rattle.ctr_walk.specs.base_Base.{WhereSound};
 ghost use Rattle.ctr_disk.specs.declared.fault.StoreFault.TheVariants.{Fault};
+ghost use Rattle.ctr_page.specs.Damage.{chain_kind as kind_in};
 ghost use Rattle.ctr_area.specs.Reading.{size_of_kind};
 ghost use Rattle.ctr_walk.specs.record_effects_States.{pages_in, area_in};
 ghost use Rattle.ctr_walk.specs.record_effects_Standing.{IsDatabaseState};
@@ -9,7 +10,7 @@ ghost use Rattle.ctr_walk.specs.Damage.{damage_told, EndsTold, ReadsPages};
 ghost use Rattle.ctr_walk.specs.Tables.{IsChain, first_of_chain};
 ghost use Rattle.ctr_views.specs.pvs_Table.{TableFits, TableSaid};
 ghost use Rattle.ctr_cursor.specs.Pass.{first_on as first_place_on, place_behind as place_next};
-ghost use Rattle.ctr_cursor.specs.Standing.{kind_of as kind_in, IsInChain};
+ghost use Rattle.ctr_cursor.specs.Standing.{IsInChain};
 
 use ctr_disk::{Disk, StoreFault};
 use ctr_page::{Chain, PageKind, Place, kept_size, kinds_width, room_for, slot_size};
@@ -19,7 +20,7 @@ use ctr_views::table_on;
 use ctr_walk::{Origin, Store, TableOf, first_page, tell};
 
 /// The kind of the pages of a chain.
-fn kind_of(chain: Chain) -> PageKind
+fn kind_of_chain(chain: Chain) -> PageKind
     ensures { result ≡ kind_in chain }
 {
     match chain {
@@ -67,7 +68,7 @@ fn room_on<D: Disk, O: Origin>(
     ensures refused { WhereSound O.first D.Disk (IsDatabaseState store.old.now → IsInChain chain p (area_in store.old.now) → IfErr result (λ e. e ≡ Fault)) }
     ensures leaves { ReadsPages O.first D.Disk store.old store.new result }
 {
-    let table = match table_told(store, kind_of(chain), p) {
+    let table = match table_told(store, kind_of_chain(chain), p) {
         Err(fault) => return Err(fault),
         Ok(table) => table,
     };

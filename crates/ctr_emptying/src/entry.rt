@@ -1,11 +1,12 @@
 // The entry of a table that is dead.
-ghost use Rattle.std.specs.Prelude.{◌≡◌, ◌<◌, false, IfOk, IfErr};
+ghost use Rattle.std.specs.Prelude.{◌≡◌, ◌<◌, false, IfOk, IfErr, OnOk};
 ghost use Rattle.ctr_disk.specs.declared.fault.StoreFault.TheVariants.{Fault};
 ghost use Rattle.ctr_base.specs.Base.{WhereSound};
 ghost use Rattle.ctr_meta.specs.Tables.{is_in};
 ghost use Rattle.ctr_record_effects.specs.Standing.{IsDatabaseState};
 ghost use Rattle.ctr_walk.specs.Damage.{ReadsPages};
 ghost use Rattle.ctr_walk.specs.OneRecord.{HasRoomForOne};
+ghost use Rattle.ctr_page_turns.specs.Rooms.{AddsItems};
 ghost use Rattle.ctr_page_turns.specs.Turns.{Turns};
 ghost use Rattle.ctr_emptying.specs.Emptying.{next_emptied, FreesEntryAt};
 ghost use Rattle.ctr_emptying.specs.Looking.{FreeingSaid};
@@ -67,6 +68,9 @@ pub fn free_entry_at<D: Disk, O: Origin>(
     // It logs one record, or reads pages.
     ensures turns { Turns O.first D.Disk store.old store.new result }
     ensures numbers { IfOk result (λ t. store.new.next ≡ next_emptied t store.old.next) }
+    // No transaction and no item is added to the tables, and as many pages are counted.
+    ensures left { OnOk result (AddsItems 0 store.old.meta store.new.meta) }
+    ensures counted { OnOk result (store.new.now.counted ≡ store.old.now.counted) }
     // That is the action, which owes nothing more, of an entry whose creator isn't open; or its creator is, or it may not be freed.
     ensures cleans { WhereSound O.first D.Disk (IsDatabaseState store.old.now → IfOk result (FreesEntryAt entry store.old.now store.new.now)) }
     // It is refused for no other cause than that the disk failed.

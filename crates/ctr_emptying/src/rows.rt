@@ -1,11 +1,12 @@
 // The first page of a bucket of a table that is dead.
-ghost use Rattle.std.specs.Prelude.{◌≡◌, ◌≢◌, ◌<◌, false, IfOk, IfErr, IfSome};
+ghost use Rattle.std.specs.Prelude.{◌≡◌, ◌≢◌, ◌<◌, false, IfOk, IfErr, IfSome, OnOk};
 ghost use Rattle.ctr_disk.specs.declared.fault.StoreFault.TheVariants.{Fault};
 ghost use Rattle.ctr_base.specs.Base.{WhereSound};
 ghost use Rattle.ctr_record_effects.specs.States.{area_in};
 ghost use Rattle.ctr_record_effects.specs.Standing.{IsDatabaseState};
 ghost use Rattle.ctr_walk.specs.OneRecord.{HasRoomForOne};
 ghost use Rattle.ctr_walk.specs.Damage.{ReadsPages};
+ghost use Rattle.ctr_page_turns.specs.Rooms.{AddsItems};
 ghost use Rattle.ctr_page_turns.specs.Turns.{Turns};
 ghost use Rattle.ctr_emptying.specs.Emptying.{next_emptied, UnlinksRowsAt};
 ghost use Rattle.ctr_emptying.specs.Looking.{FrontSaid};
@@ -61,6 +62,9 @@ pub fn unlink_rows_at<D: Disk, O: Origin>(
     // It logs one record, or reads pages.
     ensures turns { Turns O.first D.Disk store.old store.new result }
     ensures numbers { IfOk result (λ t. store.new.next ≡ next_emptied t store.old.next) }
+    // At most one item is added to the tables and no transaction, and as many pages are counted.
+    ensures left { OnOk result (AddsItems 1 store.old.meta store.new.meta) }
+    ensures counted { OnOk result (store.new.now.counted ≡ store.old.now.counted) }
     // That is the action, which owes nothing more; or no page may leave the bucket.
     ensures cleans { WhereSound O.first D.Disk (IsDatabaseState store.old.now → ((area_in store.old.now).title entry).state ≡ 2
         → IfOk result (UnlinksRowsAt entry bucket store.old.now store.new.now)) }

@@ -1,9 +1,10 @@
 // The first page of versions of a table that is dead.
-ghost use Rattle.std.specs.Prelude.{◌≡◌, ◌<◌, IfOk, IfErr};
+ghost use Rattle.std.specs.Prelude.{◌≡◌, ◌<◌, IfOk, IfErr, OnOk};
 ghost use Rattle.ctr_disk.specs.declared.fault.StoreFault.TheVariants.{Fault};
 ghost use Rattle.ctr_base.specs.Base.{WhereSound};
 ghost use Rattle.ctr_record_effects.specs.Standing.{IsDatabaseState};
 ghost use Rattle.ctr_walk.specs.OneRecord.{HasRoomForOne};
+ghost use Rattle.ctr_page_turns.specs.Rooms.{AddsItems};
 ghost use Rattle.ctr_page_turns.specs.Turns.{Turns};
 ghost use Rattle.ctr_emptying.specs.Emptying.{next_emptied, UnlinksVersionsAt};
 
@@ -27,6 +28,9 @@ pub fn unlink_versions_at<D: Disk, O: Origin>(
     // It logs one record, or reads pages.
     ensures turns { Turns O.first D.Disk store.old store.new result }
     ensures numbers { IfOk result (λ t. store.new.next ≡ next_emptied t store.old.next) }
+    // At most one item is added to the tables and no transaction, and as many pages are counted.
+    ensures left { OnOk result (AddsItems 1 store.old.meta store.new.meta) }
+    ensures counted { OnOk result (store.new.now.counted ≡ store.old.now.counted) }
     // That is the action, which owes nothing more, where no bucket has a page; or a bucket has, or no page may leave the chain.
     ensures cleans { WhereSound O.first D.Disk (IsDatabaseState store.old.now → IfOk result (UnlinksVersionsAt entry store.old.now store.new.now)) }
     // It is refused for no other cause than that the disk failed.

@@ -11,8 +11,8 @@ pub record AreOver {D : Type 0} (h : Sessions) (v : View D) : Type 0 where
   pub going : v.stopped ≡ false
   pub seats : AreSeated h v.now.counted
 
--- A step beside sessions leaves what they stand on: the store goes on, no number is drawn, there is as
--- much room for items, and as many pages are counted.
+-- A step beside sessions leaves what they stand on: the store goes on, no number is drawn, there is
+-- as much room for items, and as many pages are counted.
 pub record LeavesBeside {D : Type 0} (a b : View D) : Type 0 where
   pub going : b.stopped ≡ false
   pub next : b.meta.tables.next ≡ a.meta.tables.next

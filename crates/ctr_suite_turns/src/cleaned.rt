@@ -1,7 +1,7 @@
 // Steps of the cleaner: a pass over what stands in files, while no session is at work, and one beside sessions.
 ghost use Rattle.std.specs.Prelude.{◌≡◌, ◌<◌, true, false, OnOk};
 ghost use Rattle.ctr_walk.specs.OneRecord.{HasRoomForOne};
-ghost use Rattle.ctr_cursor.specs.Standing.{IsWithin};
+ghost use Rattle.ctr_cursor.specs.Standing.{IsCountedPosition};
 ghost use Rattle.ctr_suite_turns.specs.Over.{LeavesBeside};
 
 use crate::files::{Files, Mem, files_of, opened};
@@ -228,7 +228,7 @@ fn pass_at(store: &mut Mem, beside: Beside, position: Position) -> Result<bool, 
 
 // Whether a position names an entry, a bucket and a counted page.
 fn is_within(counted: u32, position: Position) -> bool
-    ensures { result ≡ true → IsWithin counted position }
+    ensures { result ≡ true → IsCountedPosition counted position }
 {
     match position {
         Position::Entry { entry } => entry < ENTRIES,

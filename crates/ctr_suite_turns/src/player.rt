@@ -203,6 +203,11 @@ impl Player {
         Ok(())
     }
 
+    // Plays one, and prints it.
+    fn show(&mut self, meeting: Meeting) -> Result<(), Trouble> {
+        put_meeting(self.alloc, &mut self.page, &self.files, &self.base, meeting)
+    }
+
     fn step(&mut self, step: Step) -> Result<(), Trouble> {
         match step {
             Step::Case { name } => self.begin_case(name),
@@ -234,18 +239,8 @@ impl Player {
             Step::Undo => self.undo(),
             Step::Clean => self.clean(),
             Step::Full => fill(self.alloc, &mut self.files),
-            Step::Meetings {
-                count,
-                from: number,
-                cleans,
-            } => self.meet(count, Meeting { number, cleans }),
-            Step::Meeting { number, cleans } => put_meeting(
-                self.alloc,
-                &mut self.page,
-                &self.files,
-                &self.base,
-                Meeting { number, cleans },
-            ),
+            Step::Meetings { count, first } => self.meet(count, first),
+            Step::Meeting { meeting } => self.show(meeting),
         }
     }
 

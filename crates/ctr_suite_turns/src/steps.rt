@@ -1,4 +1,5 @@
 // Steps as they are written.
+use crate::meetings::Meeting;
 use ctr_suite::{Words, named, split_word};
 
 /// What a line of a suite asks for.
@@ -43,15 +44,13 @@ pub enum Step<'a> {
     Undo,
     /// A pass of the cleaner over the files.
     Clean,
-    /// Generated runs; whether the cleaner has turns in them.
+    /// So many generated runs, of this one and those behind it.
     Meetings {
         count: u64,
-        from: u64,
-        cleans: bool,
+        first: Meeting,
     },
     Meeting {
-        number: u64,
-        cleans: bool,
+        meeting: Meeting,
     },
 }
 
@@ -94,11 +93,10 @@ fn each_of(rest: &[u8]) -> Option<Step> {
 // `500 1`
 fn meetings_of(rest: &[u8], cleans: bool) -> Option<Step> {
     let mut words = Words::new(rest);
-    let step = Step::Meetings {
-        count: words.value(),
-        from: words.value(),
-        cleans,
-    };
+    let count = words.value();
+    let number = words.value();
+    let first = Meeting { number, cleans };
+    let step = Step::Meetings { count, first };
     if words.are_right() { Some(step) } else { None }
 }
 
@@ -112,10 +110,9 @@ fn tail_of(rest: &[u8]) -> Option<Step> {
 
 fn meeting_of(rest: &[u8], cleans: bool) -> Option<Step> {
     let mut words = Words::new(rest);
-    let step = Step::Meeting {
-        number: words.value(),
-        cleans,
-    };
+    let number = words.value();
+    let meeting = Meeting { number, cleans };
+    let step = Step::Meeting { meeting };
     if words.are_right() { Some(step) } else { None }
 }
 
