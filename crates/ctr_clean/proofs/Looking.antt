@@ -23,7 +23,7 @@ use Rattle.ctr_page_turns.specs.Turns.{Turns, Reads, LogsARecord}
 use Rattle.ctr_trim.specs.declared.slots.TrimWay.{TrimWay}
 use Rattle.ctr_trim.specs.Trimming.{trimming_by, trim_record, TrimsSlot}
 use Rattle.ctr_clean.specs.Choosing.{passes_below}
-use Rattle.ctr_clean.specs.Steps.{Locks, ChoosesAt}
+use Rattle.ctr_clean.specs.Steps.{Locks, MayTrimAt}
 
 -- where a search through the versions of the row at a place meets no damage, its slot is read without
 pub slot_undamaged : (sought : ℕ → Bool) (counted : ℕ) (pages : ℕ → List ℕ) (at : Place) → MeetsNoDamage (λ r. r ≡ xids_found (sought_at sought counted pages at)) → (bad : BadChain)
@@ -46,6 +46,6 @@ pass_committed low tables x passes = first (is_committed_in tables x) (nat_lt x 
     first false b is = absurd cc
 
 -- what is chosen is owed for
-pub owed_by : (low : ℕ) (locks : Locks) (e : ℕ) (at : Place) (s : State) (way : TrimWay) → IsAmong at (slot_places (area_in s) e) → ChoosesAt low locks e at s (Some way)
+pub owed_by : (low : ℕ) (locks : Locks) (e : ℕ) (at : Place) (s : State) (way : TrimWay) → IsAmong at (slot_places (area_in s) e) → MayTrimAt low locks e at s way
     → OwedByTrim (passes_below low s.tables) s.tables (area_in s) e at (trimming_by way)
 owed_by low locks e at s way among chosen = record { used = (among, chosen.0); old = pass_committed low s.tables; fits = chosen.2.0; some = chosen.2.1 }

@@ -1,6 +1,6 @@
 -- One step of the cleaner, at one place: it logs the record of one of its actions, which owes
 -- nothing more, or it does nothing.
-use Rattle.std.specs.Prelude.{◌≡◌, ℕ, ◌+◌, List, Bool, true, false, Option, None, Some, ℤ}
+use Rattle.std.specs.Prelude.{◌≡◌, ℕ, ◌+◌, List, Bool, true, false, None, ℤ}
 use Rattle.ctr_meta.specs.Tables.{is_in}
 use Rattle.ctr_page.specs.declared.rows.Place.{Place}
 use Rattle.ctr_locks.specs.Held.{LocksOfSession, locks_key, first_that}
@@ -48,18 +48,11 @@ abbrev pub HasNoTrim : ℕ → Locks → ℕ → Place → State → Type 0
 HasNoTrim low locks e at s = IsUnlocked locks e ((area_in s).slot at).key → (way : Trimming)
     → OwedByTrim (passes_below low s.tables) s.tables (area_in s) e at way → ⊥
 
--- The slot at a place may be trimmed in a way, and its row isn't locked; or no row there may be.
-abbrev pub ChoosesAt : ℕ → Locks → ℕ → Place → State → Option TrimWay → Type 0
-ChoosesAt low locks e at s (Some way) = (((area_in s).slot at).used ≡ true)
+-- The slot at a place is used and may be trimmed in this way, and its row isn't locked.
+abbrev pub MayTrimAt : ℕ → Locks → ℕ → Place → State → TrimWay → Type 0
+MayTrimAt low locks e at s way = (((area_in s).slot at).used ≡ true)
     × IsUnlocked locks e ((area_in s).slot at).key
     × MayTrim (trimming_by way) (passes_below low s.tables) ((area_in s).slot at)
-ChoosesAt low locks e at s None = HasNoTrim low locks e at s
-
--- What a step at a slot of a live table did.
-abbrev pub TrimsAt : ℕ → Locks → ℕ → Place → State → State → Step → Type 0
-TrimsAt low locks e at s t Cleaned = (one : CleansOne low locks s t)
-    × ((way : Trimming) × (one.action ≡ Trims (passes_below low s.tables) e at way))
-TrimsAt low locks e at s t Nothing = (t ≡ s) × HasNoTrim low locks e at s
 
 -- ---- heads
 
@@ -89,7 +82,7 @@ RevertsAt low locks e at s t Nothing = (t ≡ s) × HasNoRevert locks e at s
 abbrev pub TaskAt : ℕ → Locks → ℕ → Place → State → SlotTask → Type 0
 TaskAt low locks e at s task.Nothing = HasNoRevert locks e at s × HasNoTrim low locks e at s
 TaskAt low locks e at s task.Revert = GoesAt locks e at s true
-TaskAt low locks e at s (task.Trim way) = ChoosesAt low locks e at s (Some way)
+TaskAt low locks e at s (task.Trim way) = MayTrimAt low locks e at s way
 
 -- The action is of the slot at a place: its head is taken, or it is trimmed.
 abbrev pub IsDoneAt : ℕ → Place → Action → Type 0

@@ -1,13 +1,6 @@
 -- What a step of the cleaner did at an entry of the catalog.
-use Rattle.std.specs.Prelude.{◌≡◌, ℕ, ◌*◌, Bool, true, false, List, Option, None, Some, Result, Ok, Err, if◌then◌else◌}
-use Rattle.ctr_rec.specs.declared.decoding.BadRecord.{BadRecord}
-use Rattle.ctr_page.specs.declared.table.TheConstants.{ENTRY_SIZE}
-use Rattle.ctr_page.specs.Columns.{entry_at}
-use Rattle.ctr_page.specs.Damage.{entry_check}
+use Rattle.std.specs.Prelude.{◌≡◌, ℕ, Bool, true, false}
 use Rattle.ctr_redo.specs.States.{State}
-use Rattle.ctr_area.specs.Areas.{Title}
-use Rattle.ctr_area.specs.Reading.{title_of}
-use Rattle.ctr_area.specs.Images.{is_live}
 use Rattle.ctr_record_effects.specs.States.{area_in}
 use Rattle.ctr_record_laws.specs.Owed.{OwedByDying}
 use Rattle.ctr_actions.specs.Actions.{MakesDead}
@@ -15,17 +8,6 @@ use Rattle.ctr_clean.specs.Choosing.{passes_below}
 use Rattle.ctr_clean.specs.Steps.{Locks, CleansOne}
 use Rattle.ctr_clean.specs.declared.steps.Step.{Step}
 use Rattle.ctr_clean.specs.declared.steps.Step.TheVariants.{Cleaned, Nothing}
-
--- who dropped the live table that a title is, 0 for nobody, where it is one
-abbrev pub dropper_of : Title → Option ℕ
-dropper_of title = if is_live title then Some title.dropper else None
-
--- an entry on a page fails its check; or it passes, and says who dropped its live table
-abbrev pub DropperSaid : ℕ → ℕ → List ℕ → Result (Option ℕ) BadRecord → Type 0
-DropperSaid counted n page (Err bad) = entry_check counted (ENTRY_SIZE * n) page ≡ Err bad
-DropperSaid counted n page (Ok dropper) =
-    (entry_check counted (ENTRY_SIZE * n) page ≡ Ok tt)
-    × (dropper ≡ dropper_of (title_of (entry_at n page)))
 
 -- what is owed for a table to be made dead, by who everybody sees
 abbrev pub OwesDying : ℕ → ℕ → State → Type 0

@@ -73,7 +73,7 @@ pub(crate) fn passes(meta: &Meta, low: Xid, x: Xid) -> bool
 
 /// How a used slot may be trimmed: where everybody sees its head, or its previous version, what is behind goes; and a tombstone that everybody
 /// sees goes where nothing is behind it.
-pub(crate) fn trim_of(meta: &Meta, low: Xid, slot: &SlotFacts) -> Option<TrimWay>
+fn trim_of(meta: &Meta, low: Xid, slot: &SlotFacts) -> Option<TrimWay>
     requires used { slot.now.used ≡ true }
     ensures { (there : Slot) → Tells there slot.now → IsTrimOf (passes_below low meta.now.tables) there result }
 {

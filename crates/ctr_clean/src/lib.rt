@@ -21,5 +21,5 @@ pub use lists::{forget_at, reclaim};
 pub use older::free_older_at;
 pub use reverting::revert_at;
 pub use slots::clean_slot;
-pub use steps::{Step, trim_at};
+pub use steps::Step;
 pub use tables::make_dead_at;
