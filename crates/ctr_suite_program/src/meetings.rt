@@ -274,7 +274,7 @@ fn play_made(
 
 /// Plays the script of a number over a disk, by its list of actors, and judges it: the tape is legal, the run is
 /// finished, and the disk is left with a prefix of the commits, at the end and by a stop at one moment.
-pub fn meet(
+fn meet(
     alloc: Global,
     image: &Image,
     before: &Right,
@@ -293,4 +293,19 @@ pub fn meet(
         }
         Err(error) => Err(error),
     }
+}
+
+/// Meets the scripts of these numbers, from the first to the last.
+pub fn meet_each(
+    alloc: Global,
+    image: &Image,
+    right: &Right,
+    (from, to): (u64, u64),
+    met: &mut Met,
+    page: &mut Page,
+) -> Result<(), OutOfMemory> {
+    for script in from..=to {
+        meet(alloc, image, right, script, met, page)?;
+    }
+    Ok(())
 }

@@ -2,10 +2,11 @@
 use crate::databases::Right;
 use crate::judge::{Found, found_alone, led_from};
 use crate::lists::set;
-use crate::meetings::{Met, meet};
+use crate::meetings::{Met, meet_each};
 use crate::numbers::{filling, hex_bytes, name_of, number, numbers, split_file, split_number};
 use crate::page::Page;
-use crate::reading::{put_cuts, put_line, put_record, put_tokens};
+use crate::printed::{is_printed, put_answered};
+use crate::reading::{put_bytes, put_lines};
 use crate::run::play;
 use crate::script::add_line;
 use crate::setup::{Ask, Counts, Ran, Setup, Work, run_words};
@@ -14,7 +15,7 @@ use crate::sweep::{NO_DATABASE, sweep_failures, sweep_stops};
 use crate::words::{actors_in, root_of, words_in};
 use ctr_mem_disk::Image;
 use ctr_suite::{Plays, split_word};
-use ctr_types::{File, OutOfMemory, Plain, Reply};
+use ctr_types::{File, OutOfMemory, Plain};
 use std::alloc::Global;
 use std::mem;
 
@@ -293,7 +294,7 @@ impl Player {
     // Whether what was put is what the tape, the status and the cause say, and the tape is legal; and which databases are
     // right after it.
     fn judge(&mut self, ran: &Ran) -> Result<(), OutOfMemory> {
-        if !self.is_printed(ran) {
+        if !is_printed(&self.last, ran) {
             self.page.put(b"WRONG: another text was put\n");
         }
         if self.last.is_command("init") {
@@ -307,14 +308,6 @@ impl Player {
             None => self.page.put(b"WRONG: the tape isn't legal\n"),
         }
         Ok(())
-    }
-
-    // The text was put, or a prefix of it where the sink was to fail.
-    fn is_printed(&self, ran: &Ran) -> bool {
-        if self.last.sink_fails.is_empty() {
-            return ran.text.as_slice() == ran.seen.printing.as_slice();
-        }
-        ran.seen.printing.starts_with(&ran.text)
     }
 
     fn judge_init(&mut self, ran: &Ran) -> Result<(), OutOfMemory> {
@@ -399,21 +392,9 @@ impl Player {
     // Each commit that the last run answered, with the moment.
     fn put_answers(&mut self) -> Result<(), OutOfMemory> {
         let ran = play(self.alloc, &self.last, Ask::Last)?;
-        self.put_answered(&ran);
+        put_answered(self.alloc, &mut self.page, &ran.tape);
         drop(ran);
         Ok(())
-    }
-
-    fn put_answered(&mut self, ran: &Ran) {
-        for entry in ran.tape.entries.as_slice() {
-            if let Reply::Answered { k } = &entry.reply {
-                self.page.put_number(self.alloc, "", entry.session as u64);
-                self.page.put_number(self.alloc, ".", entry.statement);
-                self.page.put_number(self.alloc, ": commit ", *k);
-                self.page.put_number(self.alloc, " at ", entry.moment);
-                self.page.put(b"\n");
-            }
-        }
     }
 
     fn sweep_stops(&mut self) -> Result<(), OutOfMemory> {
@@ -434,21 +415,9 @@ impl Player {
     fn put_each(&mut self, is_tokens: bool) -> Result<(), OutOfMemory> {
         let next = Setup::new(self.alloc, Image::new(self.alloc));
         let setup = mem::replace(&mut self.next, next);
-        let done = self.put_lines(is_tokens, &setup.script);
+        let done = put_lines(self.alloc, &mut self.page, is_tokens, &setup.script);
         drop(setup);
         done
-    }
-
-    fn put_lines(&mut self, is_tokens: bool, script: &[u8]) -> Result<(), OutOfMemory> {
-        let lines = script.strip_suffix(b"\n").unwrap_or(script);
-        for line in lines.split(|byte| *byte == b'\n') {
-            if is_tokens {
-                put_tokens(self.alloc, &mut self.page, line)?;
-            } else {
-                put_line(self.alloc, &mut self.page, line)?;
-            }
-        }
-        Ok(())
     }
 
     // generated FROM TO LEAST
@@ -463,35 +432,20 @@ impl Player {
             return Ok(None);
         };
         let mut met = Met::new();
-        self.meet_each(from, to, &mut met)?;
+        meet_each(
+            self.alloc,
+            &self.image,
+            &self.right,
+            (from, to),
+            &mut met,
+            &mut self.page,
+        )?;
         met.put(self.alloc, &mut self.page, least);
         Ok(Some(()))
     }
 
-    fn meet_each(&mut self, from: u64, to: u64, met: &mut Met) -> Result<(), OutOfMemory> {
-        for script in from..=to {
-            meet(
-                self.alloc,
-                &self.image,
-                &self.right,
-                script,
-                met,
-                &mut self.page,
-            )?;
-        }
-        Ok(())
-    }
-
     fn read_record(&mut self, step: Step, rest: &[u8]) -> Result<Option<()>, OutOfMemory> {
-        let Some(bytes) = hex_bytes(self.alloc, rest)? else {
-            return Ok(None);
-        };
-        if step == Step::Cuts {
-            put_cuts(self.alloc, &mut self.page, &bytes);
-        } else {
-            put_record(self.alloc, &mut self.page, &bytes);
-        }
-        Ok(Some(()))
+        put_bytes(self.alloc, &mut self.page, step == Step::Cuts, rest)
     }
 }
 

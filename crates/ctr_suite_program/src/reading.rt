@@ -1,4 +1,5 @@
 // What the readers say of single lines and records.
+use crate::numbers::hex_bytes;
 use crate::page::Page;
 use ctr_io::MemSource;
 use ctr_lex::tokens;
@@ -8,7 +9,7 @@ use ctr_types::{List, OutOfMemory, Script, Text};
 use std::alloc::Global;
 
 /// The tokens of a line, each after the place at which it begins, from 0; and the place at which none begins.
-pub fn put_tokens(alloc: Global, page: &mut Page, line: &[u8]) -> Result<(), OutOfMemory> {
+fn put_tokens(alloc: Global, page: &mut Page, line: &[u8]) -> Result<(), OutOfMemory> {
     let found = tokens(alloc, line, usize::MAX)?;
     for token in found.as_slice() {
         page.put_number(alloc, "", token.at as u64);
@@ -59,7 +60,7 @@ fn put_read(
 }
 
 /// A line by itself, and whether it is a script.
-pub fn put_line(alloc: Global, page: &mut Page, line: &[u8]) -> Result<(), OutOfMemory> {
+fn put_line(alloc: Global, page: &mut Page, line: &[u8]) -> Result<(), OutOfMemory> {
     let mut bytes = line.to_vec(alloc)?;
     bytes.push(b'\n')?;
     page.put(line);
@@ -70,7 +71,7 @@ pub fn put_line(alloc: Global, page: &mut Page, line: &[u8]) -> Result<(), OutOf
 }
 
 /// Whether bytes are a record of the log, or which check fails at which byte.
-pub fn put_record(alloc: Global, page: &mut Page, bytes: &[u8]) {
+fn put_record(alloc: Global, page: &mut Page, bytes: &[u8]) {
     match decode(bytes) {
         Ok(_) => {
             let tag = bytes.first().copied().unwrap_or(0);
@@ -93,7 +94,7 @@ fn cut_at(bytes: &[u8], length: usize) -> Option<(u64, u128)> {
 }
 
 /// Which check fails of a record that is cut short. Lengths at which the same fails are one line.
-pub fn put_cuts(alloc: Global, page: &mut Page, bytes: &[u8]) {
+fn put_cuts(alloc: Global, page: &mut Page, bytes: &[u8]) {
     let mut first = 0usize;
     let mut last = cut_at(bytes, 0);
     for length in 1..bytes.len() {
@@ -116,4 +117,40 @@ fn put_cut(alloc: Global, page: &mut Page, from: usize, to: usize, bad: Option<(
         None => page.put(b": whole\n"),
         Some((at, want)) => page.put_text(format!(in alloc; ": bad at {at}, want {want}\n")),
     }
+}
+
+/// The tokens of each line of a script, or whether it is a script by itself.
+pub fn put_lines(
+    alloc: Global,
+    page: &mut Page,
+    is_tokens: bool,
+    script: &[u8],
+) -> Result<(), OutOfMemory> {
+    let lines = script.strip_suffix(b"\n").unwrap_or(script);
+    for line in lines.split(|byte| *byte == b'\n') {
+        if is_tokens {
+            put_tokens(alloc, page, line)?;
+        } else {
+            put_line(alloc, page, line)?;
+        }
+    }
+    Ok(())
+}
+
+/// The record of bytes that are written in hexadecimal, or of each of their fronts; none where they are no such bytes.
+pub fn put_bytes(
+    alloc: Global,
+    page: &mut Page,
+    cuts: bool,
+    rest: &[u8],
+) -> Result<Option<()>, OutOfMemory> {
+    let Some(bytes) = hex_bytes(alloc, rest)? else {
+        return Ok(None);
+    };
+    if cuts {
+        put_cuts(alloc, page, &bytes);
+    } else {
+        put_record(alloc, page, &bytes);
+    }
+    Ok(Some(()))
 }

@@ -8,7 +8,7 @@ use crate::files::{Files, Mem, files_of, opened};
 use crate::lists::set;
 use crate::logged::gather;
 use crate::trouble::Trouble;
-use crate::undone::ready;
+use crate::undone::make_ready;
 use ctr_clean::{
     Step, clean_slot, cut_at, forget_at, free_older_at, make_dead_at, reclaim, revert_at,
 };
@@ -136,9 +136,7 @@ fn clean_by(store: &mut Mem, beside: Beside, task: Task) -> Result<bool, Trouble
     requires going { store.old.stopped ≡ false }
     ensures beside { OnOk result (LeavesBeside store.old store.new) }
 {
-    if !ready(store, 0)? {
-        return Err(Trouble::OutOfMemory);
-    }
+    make_ready(store, 0)?;
     Ok(clean(store, beside, task)? == Step::Cleaned)
 }
 
@@ -172,9 +170,7 @@ fn empty(store: &mut Mem, entry: u8, bucket: u8) -> Result<bool, Trouble>
     requires there { entry < ENTRIES }
     ensures going { OnOk result (store.new.stopped ≡ false) }
 {
-    if !ready(store, 1)? {
-        return Err(Trouble::OutOfMemory);
-    }
+    make_ready(store, 1)?;
     let step = if bucket < BUCKETS {
         unlink_rows_at(store, entry, bucket)?
     } else if bucket == BUCKETS {

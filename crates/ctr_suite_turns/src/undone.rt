@@ -1,5 +1,5 @@
 // Undo of what a stop left open, turn by turn.
-ghost use Rattle.std.specs.Prelude.{◌≡◌, ◌<◌, false, IsTrue, IfOk, OnOk};
+ghost use Rattle.std.specs.Prelude.{◌≡◌, ◌<◌, false, OnOk};
 ghost use Rattle.ctr_walk.specs.OneRecord.{HasRoomForOne};
 ghost use Rattle.ctr_suite_turns.specs.Over.{LeavesBeside};
 
@@ -21,6 +21,9 @@ const TURNS: u32 = 3;
 
 const MOST_TURNS: u32 = 100_000;
 
+/// A record has no number from this on.
+const LAST_NUMBER: u64 = 1 << 62;
+
 // Takes turns for room, at most so many, until there is room.
 fn make_room(store: &mut Mem, most: u32) -> Result<(), StoreFault>
     requires going { store.old.stopped ≡ false }
@@ -33,17 +36,21 @@ fn make_room(store: &mut Mem, most: u32) -> Result<(), StoreFault>
     make_room(store, most - 1)
 }
 
-/// Makes room for a record more, which may add so many items to the secondary log; whether there is.
-pub fn ready(store: &mut Mem, items: usize) -> Result<bool, StoreFault>
+/// Makes room for a record more, which may add so many items to the secondary log.
+pub fn make_ready(store: &mut Mem, items: usize) -> Result<(), Trouble>
     requires going { store.old.stopped ≡ false }
     ensures beside { OnOk result (LeavesBeside store.old store.new) }
-    ensures room { IfOk result (λ is. IsTrue is → HasRoomForOne 0 items store.new) }
+    ensures room { OnOk result (HasRoomForOne 0 items store.new) }
 {
     make_room(store, TURNS)?;
-    if store.reserve(0, items).is_err() {
-        return Ok(false);
+    store.reserve(0, items)?;
+    if !store.room() {
+        return Err(Trouble::NotOver);
     }
-    Ok(store.room() && store.next() < 1 << 62)
+    if store.next() >= LAST_NUMBER {
+        return Err(Trouble::Worn);
+    }
+    Ok(())
 }
 
 // A turn of undo; whether something is left.
@@ -55,9 +62,7 @@ fn take_turn<L: Ledger>(
     requires going { store.old.stopped ≡ false }
     ensures going { OnOk result (store.new.stopped ≡ false) }
 {
-    if !ready(store, 0)? {
-        return Err(Trouble::OutOfMemory);
-    }
+    make_ready(store, 0)?;
     Ok(turn(store, list, steps)? == UndoTurn::Undone)
 }
 
