@@ -1,11 +1,14 @@
 -- Where a position stands, and which actions take its page from under it.
-use Rattle.std.specs.Prelude.{◌≡◌, ℕ, ◌<◌}
+use Rattle.std.specs.Prelude.{◌≡◌, ℕ, ◌<◌, ◌==◌, Bool, false}
+use Rattle.ctr_rec.specs.declared.record.SlogItem.{SlogItem}
+use Rattle.ctr_rec.specs.declared.record.SlogItem.TheVariants.{AllocOf, FreeOf, CreateOf, DropOf}
 use Rattle.ctr_page.specs.declared.checks.Chain.{Chain}
 use Rattle.ctr_page.specs.declared.checks.Chain.TheVariants.{Rows, Versions}
+use Rattle.ctr_page.specs.declared.header.Header.{Header}
 use Rattle.ctr_page.specs.declared.rows.Place.{Place}
 use Rattle.ctr_area.specs.Areas.{Area}
 use Rattle.ctr_area.specs.Chains.{pages_bound, pages_from}
-use Rattle.ctr_area.specs.Sound.{IsAmong}
+use Rattle.ctr_area.specs.Sound.{IsAmong, IsOfRows, IsOfVersions}
 use Rattle.ctr_actions.specs.Sites.{Site}
 use Rattle.ctr_actions.specs.Actions.{Action, Unlinks, UnlinksOlder}
 use Rattle.ctr_walk.specs.Tables.{IsChain, first_of_chain}
@@ -15,6 +18,18 @@ use Rattle.ctr_cursor.specs.declared.position.Position.TheVariants.{Entry, Slot,
 -- A page stands in a chain.
 abbrev pub IsInChain : Chain → ℕ → Area → Type 0
 IsInChain chain p area = IsAmong p (pages_from pages_bound area.header (first_of_chain area chain))
+
+-- a header is that of a page of a chain
+abbrev pub IsOfChain : Chain → Header → Type 0
+IsOfChain (Rows e bucket) h = IsOfRows e bucket h
+IsOfChain (Versions e) h = IsOfVersions e h
+
+-- an item of the secondary log is of the page
+abbrev pub is_item_of : ℕ → SlogItem → Bool
+is_item_of p (AllocOf x q) = q == p
+is_item_of p (FreeOf q) = q == p
+is_item_of p (CreateOf x e) = false
+is_item_of p (DropOf x e) = false
 
 -- a place of a chain: its page stands there, and has room for it
 abbrev pub IsPlaceIn : Chain → Place → Area → Type 0

@@ -8,6 +8,7 @@ mod laws;
 mod places;
 mod position;
 mod staying;
+mod there;
 
 pub use advancing::advance;
 pub use laws::{
@@ -15,3 +16,4 @@ pub use laws::{
 };
 pub use position::Position;
 pub use staying::a_position_stays;
+pub use there::is_there;

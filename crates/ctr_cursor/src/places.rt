@@ -57,7 +57,7 @@ fn table_told<D: Disk, O: Origin>(
 }
 
 /// How many places a page of a chain has.
-fn room_on<D: Disk, O: Origin>(
+pub(crate) fn room_on<D: Disk, O: Origin>(
     store: &mut Store<D, O>,
     chain: Chain,
     p: PageNo,
