@@ -1,5 +1,5 @@
 -- What a turn of a session asks and leaves, whatever the disk tells.
-use Rattle.std.specs.Prelude.{◌≡◌, ◌<◌, ◌≤◌, ◌==◌, ◌+◌, ℕ, Bool, false, Option, None, Some, is_some, Result, OnOk}
+use Rattle.std.specs.Prelude.{◌≡◌, ◌⊎◌, ◌<◌, ◌≤◌, ◌==◌, ◌+◌, ℕ, Bool, false, Option, None, Some, is_some, Result, OnOk}
 use Rattle.ctr_disk.specs.declared.disk.Disk.{Ghosts}
 use Rattle.ctr_disk.specs.Image.{Image}
 use Rattle.ctr_disk.specs.declared.fault.StoreFault.{StoreFault}
@@ -59,10 +59,20 @@ pub data LeavesFrontOrGrows {D : Type 0} (g : Ghosts D) (a b : View D) : Type 0 
   Grows : (m : View D) → RestsBehind g a m → m.now.counted < MOST_PAGES → LeavesGrowing g m b
       → LeavesFrontOrGrows g a b
 
+-- Nothing was logged, and what stands in the store is as it was, but that more pages may be counted.
+pub record StandsStill {D : Type 0} (a b : View D) : Type 0 where
+  pub next : b.next ≡ a.next
+  pub now : b.now ≡ record a.now { counted = b.now.counted }
+
+-- So it is, or one record was logged.
+abbrev pub StillOrLogs : {D : Type 0} → View D → View D → Type 0
+StillOrLogs a b = StandsStill a b ⊎ (b.next ≡ a.next + 1)
+
 -- What a turn leaves of the disk, however it ends: time doesn't go back, and a fault is told where the
--- disk counts one more.
+-- disk counts one more. Where it was answered, it logged a record, or left what stands in the store.
 pub record LeavesDisk {D T : Type 0} (first : Image) (g : Ghosts D) (a b : View D)
     (result : Result T StoreFault) : Type 0 where
   pub later : g.moment_of a.disk ≤ g.moment_of b.disk
   pub faults : HasFault Fault (g.faults_of a.disk) (g.faults_of b.disk) result
   pub left : WhereSound first g (LeavesFrontOrGrows g a b)
+  pub goes : WhereSound first g (OnOk result (StillOrLogs a b))

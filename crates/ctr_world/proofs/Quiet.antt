@@ -1,9 +1,9 @@
 -- A World behind a call of its store that logs nothing, or is told some entries later.
-use Rattle.std.proofs.Common.{◌≡◌, ℕ, ◌≤◌, false, [], Result, Ok, Err, sym, ◌∙◌, ap, subst, arith}
+use Rattle.std.proofs.Common.{◌≡◌, ◌⊎◌, ⊎_elim, inl, inr, ℕ, ◌+◌, ◌≤◌, false, [], Result, Ok, Err, sym, ◌∙◌, ap, subst, arith}
 use Rattle.std.specs.Prelude.{IsTrue, OnErr, OnOk}
 use Rattle.ctr_disk.specs.declared.fault.StoreFault.{StoreFault}
 use Rattle.ctr_disk.specs.declared.fault.StoreFault.TheVariants.{Fault}
-use Rattle.ctr_base.specs.Base.{IsSoundImage}
+use Rattle.ctr_base.specs.Base.{IsSoundImage, WhereSound}
 use Rattle.ctr_disk.specs.declared.disk.Disk.{Ghosts}
 use Rattle.ctr_disk.specs.Image.{Image}
 use Rattle.ctr_meta.specs.Kept.{TablesKept}
@@ -15,8 +15,11 @@ use Rattle.ctr_record_effects.specs.States.{area_in}
 use Rattle.ctr_undo.specs.kept_Turns.{Start}
 use Rattle.ctr_undo.specs.kept_Walk.{Mind}
 use Rattle.ctr_store.specs.Store.{View, KeepsRoom, LeavesFront, LeavesPage, Logs}
-use Rattle.ctr_flush.specs.Turns.{KeepsPages}
-use Rattle.ctr_exec.specs.ctr_session_world.Ready.{LeavesDisk, StandOver, Front}
+use Rattle.ctr_flush.specs.declared.flusher.FlushTurn.{FlushTurn}
+use Rattle.ctr_flush.specs.declared.flusher.FlushTurn.TheVariants.{Wrote, Idle, Short}
+use Rattle.ctr_flush.specs.Turns.{AnswersTurn, KeepsPages}
+use Rattle.ctr_exec.specs.ctr_session_world.Ready.{LeavesDisk, StandOver, StillOrLogs, Front}
+use Rattle.ctr_exec.proofs.ctr_session_world.Disks.{as_counted}
 use Rattle.ctr_exec.specs.ctr_session_world.World.{SessionsHeld, InWorld}
 use Rattle.ctr_exec.proofs.Going.{shows_behind}
 use Rattle.ctr_exec.specs.declared.sessions.Sessions.{Sessions}
@@ -101,9 +104,19 @@ module _ {D B : Type 0} (o : Opening B) (first : Image) (g : Ghosts D) (old : Ru
   shows_or (Ok x) s leaves kept refused tells sound shows = world_behind s (leaves.logs tells sound).now kept shows
   shows_or (Err e) s leaves kept refused tells sound shows = cc refused
 
+-- a turn of the flusher logs a record where it begins a generation, and else none
+next_flushed : {D : Type 0} (a b : View D) (t : FlushTurn) → AnswersTurn a b (Ok t) → (b.next ≡ a.next) ⊎ (b.next ≡ a.next + 1)
+next_flushed a b Wrote ends = ⊎_elim (λ begins. inr begins.2.next) (λ rest. ⊎_elim (λ drops. inl (ap (λ (v : View _). v.next) drops.1.0)) (λ more. ⊎_elim (λ hardens. inl hardens.log.next) (λ writes. inl writes.log.next) more) rest) ends
+next_flushed a b Idle ends = inl ends.1.1.next
+next_flushed a b Short ends = inl ends.1.1.next
+
+goes_flushed : {D : Type 0} (first : Image) (g : Ghosts D) (a b : View D) (r : Result FlushTurn StoreFault) → KeepsPages first g a b r → AnswersTurn a b r → WhereSound first g (OnOk r (StillOrLogs a b))
+goes_flushed first g a b (Ok t) leaves ends = λ told sound. ⊎_elim (λ same. inl (record { next = same; now = as_counted a.now b.now (leaves.shows told sound).0.now })) inr (next_flushed a b t ends)
+goes_flushed first g a b (Err e) leaves ends = λ told sound. tt
+
 -- what a turn of the flusher leaves of the disk
-pub disk_flushed : {D T : Type 0} (first : Image) (g : Ghosts D) (a b : View D) (r : Result T StoreFault) → KeepsPages first g a b r → LeavesDisk first g a b r
-disk_flushed first g a b r leaves = record { later = leaves.later; faults = leaves.faults; left = λ told sound. Front (leaves.any_moment told sound) }
+pub disk_flushed : {D : Type 0} (first : Image) (g : Ghosts D) (a b : View D) (r : Result FlushTurn StoreFault) → KeepsPages first g a b r → AnswersTurn a b r → LeavesDisk first g a b r
+disk_flushed first g a b r leaves ends = record { later = leaves.later; faults = leaves.faults; left = λ told sound. Front (leaves.any_moment told sound); goes = goes_flushed first g a b r leaves ends }
 
 -- a World behind it, by what it answered
 pub world_flushed : {D T : Type 0} (g : Ghosts D) (a b : View D) (r : Result T StoreFault) (P : Type 0) → OnOk r (Logs [] a b × LeavesFront g b b) → OnErr r (r ≡ Err Fault) → (Logs [] a b → LeavesFront g b b → P) → OrFails P r

@@ -97,7 +97,7 @@ drop_of (st.Delete table at) name is makes named = absurd (false≢true is)
 -- ---- locks, where entries have other names
 
 -- locks show the state by other names, where no entry has another one that has a lock
-renamed : (names now : ℕ → List ℕ) (h : LocksOfSession) (o : Option Transaction) → ((e : ℕ) (key : ℤ) → locks_key e key h ≡ true → now e ≡ names e) → IsTheSame names h o → IsTheSame now h o
+pub renamed : (names now : ℕ → List ℕ) (h : LocksOfSession) (o : Option Transaction) → ((e : ℕ) (key : ℤ) → locks_key e key h ≡ true → now e ≡ names e) → IsTheSame names h o → IsTheSame now h o
 renamed names now h None same is = is
 renamed names now h (Some t) same is = record {
   uses = is.uses;

@@ -42,6 +42,15 @@ returns-in-None-clause-over g c = c.in-Ok.ensures.over c.args.s c.args.txns.now 
 
 -- ---- what is told
 
+pub returns-in-Err-reserve_name-clause-told : goal.returns-in-Err-reserve_name-clause-told
+returns-in-Err-reserve_name-clause-told g c = λ run opened more told sound next free stands idle.
+    let s = c.args.s in
+    let h : SessionsHeld = record { txns = c.args.txns.now; locks = c.args.locks.now } in
+    let mid : SessionsHeld = record { txns = c.args.txns.now; locks = c.reserve_name.new.self } in
+    let room : KeepsSessions s h mid = record { run = refl; locks = c.reserve_name.ensures.same } in
+    c.a_look_that_wants_memory_is_told.ensures run opened c.args.store.now c.rows_at.new.store h s (st.Select c.args.table.now.name.now c.args.table.now.at.now) next act.Read tt (λ state r. refl) free mid room
+    (c.in-Ok.ensures.rests told sound)
+
 pub returns-in-Some-take_use-clause-told : goal.returns-in-Some-take_use-clause-told
 returns-in-Some-take_use-clause-told g c = λ run opened more told sound next free stands idle.
     let a = c.args.store.now in
