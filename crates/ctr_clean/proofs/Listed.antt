@@ -1,6 +1,7 @@
 -- What is found in a list.
-use Rattle.std.proofs.Common.{◌≡◌, ◌⊎◌, ⊎_elim, inl, inr, ℕ, zero, suc, ◌+◌, ◌<◌, cond, true, List, [], ◌∷◌, length, get_or, Some, refl, sym, ◌∙◌, ap, arith}
+use Rattle.std.proofs.Common.{◌≡◌, ◌⊎◌, ⊎_elim, inl, inr, ℕ, zero, suc, ◌+◌, ◌<◌, cond, true, List, [], ◌∷◌, drop, length, get_or, Some, refl, sym, ◌∙◌, ap, arith}
 use Rattle.std.specs.Prelude.{slice_get, is_some, nat_eq}
+use Rattle.std.specs.List.{AllByRecursion}
 use Rattle.std.proofs.lemmas.Bool.{false≢true, eq-eqb, eqb-true, cases_eq}
 use Rattle.ctr_actions.proofs.versions_Keys.{known, some_is}
 use Rattle.ctr_meta.specs.Tables.{heads_at, is_in}
@@ -17,6 +18,18 @@ pub place_of : {A : Type 0} (x d : A) (xs : List A) → IsAmong x xs → (k : �
 place_of x d [] in_ = absurd in_
 place_of x d (y ∷ ys) (inl is) = (0, omega arith, sym is)
 place_of x d (y ∷ ys) (inr in_) = let there = place_of x d ys in_ in (suc there.0, omega (arith, there.1), there.2)
+
+-- a member of what is left behind some is one
+pub among_behind : {A : Type 0} (x : A) (n : ℕ) (xs : List A) → IsAmong x (drop n xs) → IsAmong x xs
+among_behind x zero xs in_ = in_
+among_behind x (suc n) [] in_ = in_
+among_behind x (suc n) (y ∷ ys) in_ = inr (among_behind x n ys in_)
+
+-- what holds of all holds of what is left behind some
+pub all_behind : {A : Type 0} (P : A → Type 0) (n : ℕ) (xs : List A) → AllByRecursion P xs → AllByRecursion P (drop n xs)
+all_behind P zero xs all = all
+all_behind P (suc n) [] all = all
+all_behind P (suc n) (x ∷ xs) all = all_behind P n xs all.1
 
 -- the heads of a transaction at a place of a list in which each comes once
 pub heads_here : (ps : List (ℕ × ℕ)) (i x n : ℕ) → EachOnce ps → slice_get ps i ≡ Some (x, n) → heads_at x ps ≡ Some n

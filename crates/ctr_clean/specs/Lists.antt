@@ -1,6 +1,7 @@
 -- What a step of the cleaner did in the lists of the tables.
-use Rattle.std.specs.Prelude.{◌≡◌, ℕ, Option, None, Some, slice_get}
+use Rattle.std.specs.Prelude.{◌≡◌, ℕ, ◌+◌, Option, None, Some, drop, length, slice_get}
 use Rattle.ctr_rec.specs.declared.record.SlogItem.TheVariants.{FreeOf}
+use Rattle.ctr_meta.specs.Kept.{TablesKept}
 use Rattle.ctr_meta.specs.Tables.{Tables}
 use Rattle.ctr_redo.specs.States.{State}
 use Rattle.ctr_area.specs.Sound.{IsAmong}
@@ -28,12 +29,17 @@ ForgetsAt low locks place s t Cleaned = (one : CleansOne low locks s t)
     × ((x : ℕ) × (slice_get s.tables.aborted place ≡ Some (x, 0)) × (one.action ≡ Forgets x))
 ForgetsAt low locks place s t Nothing = (t ≡ s) × HasNoForget place s.tables
 
--- no page waits to be free again
-abbrev pub HasNoFree : Tables → Type 0
-HasNoFree tables = (p : ℕ) → IsAmong (FreeOf p) tables.items → ⊥
+-- no page waits to be free again, but for those of the first items, so many
+abbrev pub HasNoFree : ℕ → Tables → Type 0
+HasNoFree spared tables = (p : ℕ) → IsAmong (FreeOf p) (drop spared tables.items) → ⊥
 
--- What a step did for pages that left their chains.
-abbrev pub ReclaimsOne : ℕ → Locks → State → State → Step → Type 0
-ReclaimsOne low locks s t Cleaned = (one : CleansOne low locks s t)
-    × ((p : ℕ) × (one.action ≡ Reclaims p))
-ReclaimsOne low locks s t Nothing = (t ≡ s) × HasNoFree s.tables
+-- What a step did for pages that left their chains, but for those of the first items, so many.
+abbrev pub ReclaimsOne : ℕ → Locks → ℕ → State → State → Step → Type 0
+ReclaimsOne low locks spared s t Cleaned = (one : CleansOne low locks s t)
+    × ((p : ℕ) × (one.action ≡ Reclaims p) × IsAmong (FreeOf p) (drop spared s.tables.items))
+ReclaimsOne low locks spared s t Nothing = (t ≡ s) × HasNoFree spared s.tables
+
+-- an item of the secondary log is gone, where a page was given back
+abbrev pub TakesItem : TablesKept → TablesKept → Step → Type 0
+TakesItem k l Cleaned = length l.tables.items + 1 ≡ length k.tables.items
+TakesItem k l Nothing = l ≡ k

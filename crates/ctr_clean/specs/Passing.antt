@@ -23,7 +23,7 @@ pub record HasNoStep (low : ℕ) (locks : Locks) (s : State) : Type 0 where
   pub older : (e : ℕ) (q : Place) → is_live ((area_in s).title e) ≡ true → HasNoLoose locks e q s
   pub tables : (e : ℕ) → OwesDying low e s → ⊥
   pub aborted : (place : ℕ) → HasNoForget place s.tables
-  pub free : HasNoFree s.tables
+  pub free : HasNoFree 0 s.tables
 
 -- A step does the action: one is written for it.
 abbrev pub HasStep : Action → Type 0

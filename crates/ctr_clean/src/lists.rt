@@ -1,5 +1,5 @@
 // Steps in the lists of the tables.
-ghost use Rattle.std.specs.Prelude.{◌≡◌, ◌<◌, ℕ, None, IfSome, IfOk, IfErr, OnOk};
+ghost use Rattle.std.specs.Prelude.{◌≡◌, ◌<◌, ℕ, None, IfSome, IfOk, IfErr, OnOk, drop};
 ghost use Rattle.std.specs.List.{AllByRecursion};
 ghost use Rattle.ctr_disk.specs.declared.fault.StoreFault.TheVariants.{Fault};
 ghost use Rattle.ctr_base.specs.declared.growing.TheConstants.{MOST_PAGES};
@@ -12,14 +12,14 @@ ghost use Rattle.ctr_walk.specs.OneRecord.{HasRoomForOne};
 ghost use Rattle.ctr_page_turns.specs.Turns.{Turns};
 ghost use Rattle.ctr_page_turns.specs.Rooms.{AddsItems};
 ghost use Rattle.ctr_clean.specs.Steps.{Locks, next_stepped};
-ghost use Rattle.ctr_clean.specs.Lists.{IsWithoutHead, ForgetsAt, ReclaimsOne};
+ghost use Rattle.ctr_clean.specs.Lists.{IsWithoutHead, ForgetsAt, ReclaimsOne, TakesItem};
 
 use crate::steps::Step;
 use ctr_base::Origin;
 use ctr_dead::{forget, give_back};
 use ctr_disk::{Disk, StoreFault};
 use ctr_meta::Meta;
-use ctr_page_turns::a_turn_goes_on;
+use ctr_page_turns::{a_turn_goes_on, an_item_goes};
 use ctr_rec::{PageNo, SlogItem};
 use ctr_store::Store;
 use ctr_types::Xid;
@@ -78,8 +78,24 @@ fn first_freed(items: &[SlogItem]) -> Option<PageNo>
     None
 }
 
-/// Gives back the first page that left its chain and isn't free yet, by one record, which isn't hardened yet. It takes no memory.
-pub fn reclaim<D: Disk, O: Origin>(store: &mut Store<D, O>) -> Result<Step, StoreFault>
+/// The same behind the first items, so many.
+fn freed_behind(items: &[SlogItem], spared: usize) -> Option<PageNo>
+    ensures found { IfSome result (λ p. IsAmong (FreeOf p) (drop spared items.now)) }
+    ensures none { result ≡ None → (p : ℕ) → IsAmong (FreeOf p) (drop spared items.now) → ⊥ }
+    ensures small { AllByRecursion ItemFits items.now → IfSome result (λ p. p < MOST_PAGES) }
+{
+    if spared >= items.len() {
+        return None;
+    }
+    first_freed(&items[spared..])
+}
+
+/// Gives back the first page that left its chain and isn't free yet, by one record, which isn't hardened yet. The first items of the secondary log, so
+/// many, are left alone: those of an undo, which gives their pages back itself. It takes no memory.
+pub fn reclaim<D: Disk, O: Origin>(
+    store: &mut Store<D, O>,
+    spared: usize,
+) -> Result<Step, StoreFault>
     requires room { HasRoomForOne 0 0 store.old }
     // It logs one record, or does nothing.
     ensures turns { Turns O.first D.Disk store.old store.new result }
@@ -87,14 +103,17 @@ pub fn reclaim<D: Disk, O: Origin>(store: &mut Store<D, O>) -> Result<Step, Stor
     // No transaction and no item is added to the tables, and as many pages are counted.
     ensures left { OnOk result (AddsItems 0 store.old.meta store.new.meta) }
     ensures counted { OnOk result (store.new.now.counted ≡ store.old.now.counted) }
+    // Whatever the disk tells, the item of a page that was given back is gone.
+    ensures takes { IfOk result (TakesItem store.old.meta store.new.meta) }
     // A page is free again, whoever is seen by all and whatever is locked; or there is none to give back.
-    ensures cleans { (low : ℕ) (locks : Locks) → WhereSound O.first D.Disk (IsDatabaseState store.old.now → IfOk result (ReclaimsOne low locks store.old.now store.new.now)) }
+    ensures cleans { (low : ℕ) (locks : Locks) → WhereSound O.first D.Disk (IsDatabaseState store.old.now → IfOk result (ReclaimsOne low locks spared store.old.now store.new.now)) }
     // It is refused for no other cause than that the disk failed.
     ensures refused { WhereSound O.first D.Disk (IsDatabaseState store.old.now → IfErr result (λ f. f ≡ Fault)) }
 {
     a_turn_goes_on::<D, (), Step>();
+    an_item_goes();
     store.rests();
-    match first_freed(store.meta().items()) {
+    match freed_behind(store.meta().items(), spared) {
         None => Ok(Step::Nothing),
         Some(p) => match give_back(store, p) {
             Err(fault) => Err(fault),

@@ -42,12 +42,12 @@ pub(crate) const MOST_OLDER: u32 = 5_100_000;
 
 /// What there is to know of a version entry: whether it is used; and if so the key, whose the version is, and where it leads.
 #[derive(Clone, Copy, Debug, PartialEq, Eq)]
-pub(crate) struct OlderFacts {
-    pub(crate) used: bool,
-    pub(crate) key: i64,
-    pub(crate) xid: Xid,
+pub struct OlderFacts {
+    pub used: bool,
+    pub key: i64,
+    pub xid: Xid,
     /// Page 0 where it leads nowhere.
-    pub(crate) next: Place,
+    pub next: Place,
 }
 
 /// What there is to know of a version entry that is lent.
@@ -71,8 +71,8 @@ fn facts_lent(entry: &LentVersion) -> OlderFacts
     }
 }
 
-/// What there is to know of the version entry at a place.
-pub(crate) fn look_older<D: Disk, O: Origin>(
+/// What there is to know of the version entry at a place. One page is read. It logs nothing, and takes no memory.
+pub fn look_older<D: Disk, O: Origin>(
     store: &mut Store<D, O>,
     place: Place,
 ) -> Result<OlderFacts, StoreFault>

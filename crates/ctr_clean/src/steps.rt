@@ -26,8 +26,8 @@ pub enum Step {
     Nothing,
 }
 
-/// What there is to know of the slot at a place.
-pub(crate) fn look_at<D: Disk, O: Origin>(
+/// What there is to know of the slot at a place. One page is read. It logs nothing, and takes no memory.
+pub fn look_at<D: Disk, O: Origin>(
     store: &mut Store<D, O>,
     place: Place,
 ) -> Result<SlotFacts, StoreFault>

@@ -124,7 +124,7 @@ fn clean(store: &mut Mem, beside: Beside, task: Task) -> Result<Step, Trouble>
         Task::Kept { entry, place } if entry < ENTRIES && place.page < store.counted() => {
             Ok(free_older_at(store, locks, entry, place)?)
         }
-        Task::Reclaim => Ok(reclaim(store)?),
+        Task::Reclaim => Ok(reclaim(store, 0)?),
         Task::Entry { entry } if entry < ENTRIES => Ok(make_dead_at(store, low, entry)?),
         Task::Aborted { nth } => Ok(forget_at(store, nth)?),
         _ => Ok(Step::Nothing),

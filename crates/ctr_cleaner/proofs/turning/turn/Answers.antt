@@ -1,0 +1,127 @@
+use Rattle.std.proofs.Common.{◌≡◌, Option, None, Some, Ok, Err, refl, sym, ◌∙◌, ap, subst}
+use Rattle.std.specs.Prelude.{IfSome}
+use Rattle.ctr_disk.specs.declared.fault.StoreFault.TheVariants.{Fault}
+use Rattle.ctr_meta.specs.Kept.{TablesKept}
+use Rattle.ctr_redo.specs.States.{State}
+use Rattle.ctr_record_effects.specs.Standing.{IsDatabaseState}
+use Rattle.ctr_actions.specs.Sites.{site_of}
+use Rattle.ctr_walk.proofs.Damages.{reads_err}
+use Rattle.ctr_walk.proofs.Joins.{answers_ok}
+use Rattle.ctr_page_turns.specs.Rooms.{AddsItems}
+use Rattle.ctr_page_turns.specs.Turns.{Reads}
+use Rattle.ctr_cursor.specs.declared.position.Position.{Position}
+use Rattle.ctr_cursor.specs.Pass.{next_position}
+use Rattle.ctr_cursor.specs.Standing.{IsPosition, IsCountedPosition}
+use Rattle.ctr_cleaner.specs.declared.done.CleanTurn.{CleanTurn}
+use Rattle.ctr_cleaner.specs.declared.done.CleanTurn.TheVariants.{Moved, Over}
+use Rattle.ctr_cleaner.specs.Turning.{heeding, TurnsAt, next_cleaned, LeavesRoomBy, IsWithin}
+use Rattle.ctr_cleaner.specs.Parts.{DidAt, IsPassed}
+use Rattle.ctr_cleaner.proofs.Joined.{part_told}
+use Rattle.ctr_cleaner.proofs.Found.{ok_told, told_numbers, told_left, told_within, told_did}
+use Rattle.ctr_cleaner.proofs.turning.turn.Goals as goal
+
+pub returns-in-Err-clause-turns : goal.returns-in-Err-clause-turns
+returns-in-Err-clause-turns g c =
+    c.a_turn_goes_on.ensures.failed g.O.Origin.first c.args.store.now c.clean_first.new.store c.in-Err.fault c.clean_first.result (Err c.in-Err.fault) c.clean_first.ensures.tries.turns c.in-Err.is refl
+
+pub returns-in-Ok-Some : goal.returns-in-Ok-Some
+returns-in-Ok-Some g c =
+    let first = g.O.Origin.first in
+    let old = c.args.store.now in
+    let mid = c.clean_first.new.store in
+    let s = old.now in
+    let x = c.args.at in
+    let h = heeding c.args.low c.args.locks.now c.args.spared c.args.may_unlink in
+    let r = c.clean_first.result in
+    let logged = c.in-Ok-Some.logged in
+    let is = c.in-Ok-Some.is ∙ ap Ok c.in-Ok-Some.field-0-is in
+    let part = part_told first g.D.Disk c.args.may_unlink old mid r r (Ok (Some logged)) refl is c.clean_first.ensures.tries in
+    let so = sym c.told.ensures in
+    record {
+      turns = c.a_turn_goes_on.ensures.answered first old mid (Some logged) c.told.result part.turns;
+      numbers = subst (λ (t : CleanTurn). mid.next ≡ next_cleaned t old.next) so (told_numbers old.next mid.next logged part.numbers);
+      left = subst (λ (t : CleanTurn). LeavesRoomBy t old.meta mid.meta) so (told_left old.meta mid.meta logged part.left);
+      counted = part.counted;
+      within = subst (λ (t : CleanTurn). IsWithin c.args.may_unlink mid.now.counted t) so (told_within c.args.may_unlink mid.now.counted logged part.lets);
+      cleans = λ told sound database its. subst (λ (t : CleanTurn). TurnsAt h x s mid.now t) so
+          (told_did h x (IsPassed h x s) s mid.now logged (ok_told (DidAt h x (IsPassed h x s) s mid.now) r r (Some logged) refl is (c.clean_first.ensures.cleans told sound database its)));
+      refused = λ told sound database its. tt;
+    }
+
+pub returns-in-Err-advance-clause-turns : goal.returns-in-Err-advance-clause-turns
+returns-in-Err-advance-clause-turns g c =
+    let first = g.O.Origin.first in
+    let old = c.args.store.now in
+    let mid = c.clean_first.new.store in
+    let r = c.clean_first.result in
+    let is = c.in-Ok-None.is ∙ ap Ok c.in-Ok-None.field-0-is in
+    let part = part_told first g.D.Disk c.args.may_unlink old mid r r (Ok None) refl is c.clean_first.ensures.tries in
+    let page = c.a_part_goes_on.ensures.read c.args.may_unlink first old mid part in
+    let e = c.in-Err-advance.fault in
+    c.a_turn_goes_on.ensures.behind first old mid c.advance.new.store None (Err e) page (Reads (reads_err first g.D.Disk (Option Position) CleanTurn e mid c.advance.new.store c.in-Err-advance.ensures.leaves))
+
+pub returns-in-Err-advance-clause-refused : goal.returns-in-Err-advance-clause-refused
+returns-in-Err-advance-clause-refused g c = λ told sound database its.
+    let old = c.args.store.now in
+    let mid = c.clean_first.new.store in
+    let s = old.now in
+    let x = c.args.at in
+    let h = heeding c.args.low c.args.locks.now c.args.spared c.args.may_unlink in
+    let r = c.clean_first.result in
+    let is = c.in-Ok-None.is ∙ ap Ok c.in-Ok-None.field-0-is in
+    let did = ok_told (DidAt h x (IsPassed h x s) s mid.now) r r None refl is (c.clean_first.ensures.cleans told sound database its) in
+    subst (λ (u : State). IsDatabaseState u → IsPosition x (site_of u) → c.in-Err-advance.fault ≡ Fault) did.0 (c.in-Err-advance.ensures.refused told sound) database its
+
+pub returns-in-Ok-None-advance : goal.returns-in-Ok-None-advance
+returns-in-Ok-None-advance g c =
+    let first = g.O.Origin.first in
+    let old = c.args.store.now in
+    let mid = c.clean_first.new.store in
+    let s = old.now in
+    let x = c.args.at in
+    let h = heeding c.args.low c.args.locks.now c.args.spared c.args.may_unlink in
+    let r = c.clean_first.result in
+    let is = c.in-Ok-None.is ∙ ap Ok c.in-Ok-None.field-0-is in
+    let part = part_told first g.D.Disk c.args.may_unlink old mid r r (Ok None) refl is c.clean_first.ensures.tries in
+    let page = c.a_part_goes_on.ensures.read c.args.may_unlink first old mid part in
+    let moved = c.in-Ok-None-advance in
+    let leaves = moved.ensures.leaves in
+    record {
+      turns = c.a_turn_goes_on.ensures.behind first old mid c.advance.new.store None (Ok Over) page (Reads (answers_ok first g.D.Disk moved.field-0 Over mid c.advance.new.store leaves));
+      numbers = leaves.keeps.next ∙ part.numbers;
+      left = subst (λ (m : TablesKept). AddsItems 0 old.meta m) (sym leaves.keeps.meta) part.left;
+      counted = leaves.keeps.counted ∙ part.counted;
+      within = tt;
+      cleans = λ told sound database its.
+          let did = ok_told (DidAt h x (IsPassed h x s) s mid.now) r r None refl is (c.clean_first.ensures.cleans told sound database its) in
+          let next = subst (λ (u : State). moved.field-0 ≡ next_position (site_of u) x) did.0 (moved.ensures.next told sound) in
+          record { same = (leaves.logs told sound).now ∙ did.0; free = did.1.0; nothing = did.1.1; behind = sym next ∙ moved.field-0-is };
+      refused = λ told sound database its. tt;
+    }
+
+pub returns-in-Ok-Some-advance : goal.returns-in-Ok-Some-advance
+returns-in-Ok-Some-advance g c =
+    let first = g.O.Origin.first in
+    let old = c.args.store.now in
+    let mid = c.clean_first.new.store in
+    let s = old.now in
+    let x = c.args.at in
+    let h = heeding c.args.low c.args.locks.now c.args.spared c.args.may_unlink in
+    let r = c.clean_first.result in
+    let is = c.in-Ok-None.is ∙ ap Ok c.in-Ok-None.field-0-is in
+    let part = part_told first g.D.Disk c.args.may_unlink old mid r r (Ok None) refl is c.clean_first.ensures.tries in
+    let page = c.a_part_goes_on.ensures.read c.args.may_unlink first old mid part in
+    let moved = c.in-Ok-Some-advance in
+    let leaves = moved.ensures.leaves in
+    record {
+      turns = c.a_turn_goes_on.ensures.behind first old mid c.advance.new.store None (Ok (Moved moved.to)) page (Reads (answers_ok first g.D.Disk moved.field-0 (Moved moved.to) mid c.advance.new.store leaves));
+      numbers = leaves.keeps.next ∙ part.numbers;
+      left = subst (λ (m : TablesKept). AddsItems 0 old.meta m) (sym leaves.keeps.meta) part.left;
+      counted = leaves.keeps.counted ∙ part.counted;
+      within = subst (λ n. IsCountedPosition n moved.to) (sym leaves.keeps.counted) (subst (λ (o : Option Position). IfSome o (IsCountedPosition mid.now.counted)) moved.field-0-is moved.ensures.inside);
+      cleans = λ told sound database its.
+          let did = ok_told (DidAt h x (IsPassed h x s) s mid.now) r r None refl is (c.clean_first.ensures.cleans told sound database its) in
+          let next = subst (λ (u : State). moved.field-0 ≡ next_position (site_of u) x) did.0 (moved.ensures.next told sound) in
+          record { same = (leaves.logs told sound).now ∙ did.0; free = did.1.0; nothing = did.1.1; behind = sym next ∙ moved.field-0-is };
+      refused = λ told sound database its. tt;
+    }

@@ -1,0 +1,97 @@
+-- What a turn of the cleaner did.
+use Rattle.std.specs.Prelude.{◌≡◌, ℕ, ◌+◌, Bool, true, drop, length, Option, Some, None}
+use Rattle.ctr_rec.specs.declared.record.SlogItem.TheVariants.{FreeOf}
+use Rattle.ctr_meta.specs.Kept.{TablesKept}
+use Rattle.ctr_area.specs.Sound.{IsAmong}
+use Rattle.ctr_redo.specs.States.{State}
+use Rattle.ctr_actions.specs.Sites.{Site, site_of}
+use Rattle.ctr_actions.specs.Actions.{Action, Reverts, Trims, Cuts, FreesOlder, Reclaims}
+use Rattle.ctr_actions.specs.Cleaning.{IsCleaning}
+use Rattle.ctr_page_turns.specs.Acts.{ActsBy}
+use Rattle.ctr_page_turns.specs.Rooms.{AddsItems}
+use Rattle.ctr_cleaning.specs.Sparing.{IsUnlockedAs}
+use Rattle.ctr_locking.specs.Locking.{names_of}
+use Rattle.ctr_clean.specs.Choosing.{passes_below}
+use Rattle.ctr_clean.specs.Lists.{HasNoFree}
+use Rattle.ctr_clean.specs.Steps.{Locks}
+use Rattle.ctr_cursor.specs.declared.position.Position.{Position}
+use Rattle.ctr_cursor.specs.Pass.{next_position}
+use Rattle.ctr_cursor.specs.Standing.{IsCountedPosition, TakesPage}
+use Rattle.ctr_cleaner.specs.declared.done.CleanTurn.{CleanTurn}
+use Rattle.ctr_cleaner.specs.declared.done.CleanTurn.TheVariants.{Cleaned, Unlinked, Reclaimed, Moved, Over}
+use Rattle.ctr_cleaner.specs.Finding.{IsFreeRow, HasNothingAt}
+
+-- What the cleaner heeds: below which number everybody sees what is committed, who has locked which
+-- rows, how many items at the front of the secondary log are undo's, and whether a page may leave
+-- its chain.
+pub record Heeded : Type 0 where
+  pub low : ℕ
+  pub locks : Locks
+  pub spared : ℕ
+  pub may_unlink : Bool
+
+-- what the cleaner heeds, of these
+abbrev pub heeding : ℕ → Locks → ℕ → Bool → Heeded
+heeding low locks spared may =
+    record { low = low; locks = locks; spared = spared; may_unlink = may }
+
+-- The row that an action is about isn't locked, in an entry of its table's name.
+abbrev pub IsOfOpenRow : Locks → Action → Site → Type 0
+IsOfOpenRow locks (Reverts e at way) s = IsUnlockedAs (names_of s.area) locks e (s.area.slot at).key
+IsOfOpenRow locks (Trims passes e at way) s =
+    IsUnlockedAs (names_of s.area) locks e (s.area.slot at).key
+IsOfOpenRow locks (Cuts passes e at q) s =
+    IsUnlockedAs (names_of s.area) locks e (s.area.slot at).key
+IsOfOpenRow locks (FreesOlder e q) s = IsUnlockedAs (names_of s.area) locks e (s.area.older q).key
+IsOfOpenRow locks a s = Unit {0}
+
+-- A state is left by an action of the cleaner's for nobody, which owes nothing more in the one
+-- before. Its row isn't locked; a page that is given back is that of an item behind undo's; and the
+-- position's page stays in its chain.
+pub record CleansFreely (h : Heeded) (x : Position) (s t : State) : Type 0 where
+  pub action : Action
+  pub cleaning : IsCleaning (passes_below h.low s.tables) action (site_of s)
+  pub free : IsOfOpenRow h.locks action (site_of s)
+  pub spares : (p : ℕ) → action ≡ Reclaims p → IsAmong (FreeOf p) (drop h.spared s.tables.items)
+  pub stays : TakesPage action x → ⊥
+  pub acts : ActsBy s.tables.next action s t
+
+-- The state is as it was. No page waits to be free again but undo's. There is nothing to do at the
+-- position, which is said only where a page may leave its chain. And this is the position behind
+-- it, if any.
+pub record PassesBy (h : Heeded) (x : Position) (y : Option Position) (s t : State) : Type 0 where
+  pub same : t ≡ s
+  pub free : HasNoFree h.spared s.tables
+  pub nothing : h.may_unlink ≡ true → HasNothingAt (IsFreeRow h.locks s) h.low x s
+  pub behind : next_position (site_of s) x ≡ y
+
+-- What a turn did at its position.
+abbrev pub TurnsAt : Heeded → Position → State → State → CleanTurn → Type 0
+TurnsAt h x s t Cleaned = CleansFreely h x s t
+TurnsAt h x s t Unlinked = CleansFreely h x s t
+TurnsAt h x s t Reclaimed = CleansFreely h x s t
+TurnsAt h x s t (Moved y) = PassesBy h x (Some y) s t
+TurnsAt h x s t Over = PassesBy h x None s t
+
+-- the log's next number behind a turn
+abbrev pub next_cleaned : CleanTurn → ℕ → ℕ
+next_cleaned Cleaned next = next + 1
+next_cleaned Unlinked next = next + 1
+next_cleaned Reclaimed next = next + 1
+next_cleaned (Moved y) next = next
+next_cleaned Over next = next
+
+-- What a turn leaves of the room of the tables: an item is added; one is gone; or no item is added.
+-- No number was drawn.
+abbrev pub LeavesRoomBy : CleanTurn → TablesKept → TablesKept → Type 0
+LeavesRoomBy Unlinked k l = AddsItems 1 k l
+LeavesRoomBy Reclaimed k l =
+    AddsItems 0 k l × (length l.tables.items + 1 ≡ length k.tables.items)
+LeavesRoomBy turn k l = AddsItems 0 k l
+
+-- A page leaves its chain only where it may; and what the position names to which a pass moved is
+-- there.
+abbrev pub IsWithin : Bool → ℕ → CleanTurn → Type 0
+IsWithin may_unlink counted Unlinked = may_unlink ≡ true
+IsWithin may_unlink counted (Moved y) = IsCountedPosition counted y
+IsWithin may_unlink counted turn = Unit {0}

@@ -1,0 +1,106 @@
+// In a table that is dead.
+ghost use Rattle.std.specs.Prelude.{◌≡◌, ◌<◌, true, IfOk, IfErr};
+ghost use Rattle.ctr_disk.specs.declared.fault.StoreFault.TheVariants.{Fault};
+ghost use Rattle.ctr_base.specs.Base.{WhereSound};
+ghost use Rattle.ctr_record_effects.specs.States.{area_in};
+ghost use Rattle.ctr_record_effects.specs.Standing.{IsDatabaseState};
+ghost use Rattle.ctr_walk.specs.OneRecord.{HasRoomForOne};
+ghost use Rattle.ctr_cursor.specs.declared.position.Position.TheVariants.{Entry};
+ghost use Rattle.ctr_cleaner.specs.Finding.{HasNothingInDead};
+ghost use Rattle.ctr_cleaner.specs.Turning.{Heeded};
+ghost use Rattle.ctr_cleaner.specs.Parts.{Tries, DidAt, HasRoomFor, HasNoRowsToGo, HasNoPageToGo};
+
+use crate::done::{Done, freed, unlinked};
+use crate::going::{a_part_goes_on, a_step_is_a_part};
+use ctr_base::Origin;
+use ctr_disk::{Disk, StoreFault};
+use ctr_emptying::{free_entry_at, unlink_rows_at, unlink_versions_at};
+use ctr_page_turns::room_is_still_there;
+use ctr_store::Store;
+
+/// The buckets of a table.
+const BUCKETS: u8 = 8;
+
+/// The first page leaves the first bucket whose first page may leave it.
+fn unlink_rows<D: Disk, O: Origin>(store: &mut Store<D, O>, entry: u8) -> Result<Done, StoreFault>
+    requires room { HasRoomForOne 0 1 store.old }
+    requires there { entry < 32 }
+    ensures tries { Tries true O.first D.Disk store.old store.new result }
+    ensures cleans { (h : Heeded) → WhereSound O.first D.Disk (IsDatabaseState store.old.now → ((area_in store.old.now).title entry).state ≡ 2
+        → IfOk result (DidAt h (Entry entry) (HasNoRowsToGo entry store.old.now) store.old.now store.new.now)) }
+    ensures refused { WhereSound O.first D.Disk (IsDatabaseState store.old.now → ((area_in store.old.now).title entry).state ≡ 2 → IfErr result (λ f. f ≡ Fault)) }
+{
+    a_step_is_a_part::<D>();
+    a_part_goes_on::<D>();
+    store.rests();
+    for bucket in 0..BUCKETS {
+        match unlinked(unlink_rows_at(store, entry, bucket)) {
+            Err(fault) => return Err(fault),
+            Ok(None) => {}
+            Ok(Some(logged)) => return Ok(Some(logged)),
+        }
+    }
+    Ok(None)
+}
+
+/// A page leaves its chain: of rows, or once there is none of versions.
+fn unlink_any<D: Disk, O: Origin>(store: &mut Store<D, O>, entry: u8) -> Result<Done, StoreFault>
+    requires room { HasRoomForOne 0 1 store.old }
+    requires there { entry < 32 }
+    ensures tries { Tries true O.first D.Disk store.old store.new result }
+    ensures cleans { (h : Heeded) → WhereSound O.first D.Disk (IsDatabaseState store.old.now → ((area_in store.old.now).title entry).state ≡ 2
+        → IfOk result (DidAt h (Entry entry) (HasNoPageToGo entry store.old.now) store.old.now store.new.now)) }
+    ensures refused { WhereSound O.first D.Disk (IsDatabaseState store.old.now → ((area_in store.old.now).title entry).state ≡ 2 → IfErr result (λ f. f ≡ Fault)) }
+{
+    a_step_is_a_part::<D>();
+    a_part_goes_on::<D>();
+    match unlink_rows(store, entry) {
+        Err(fault) => Err(fault),
+        Ok(None) => unlinked(unlink_versions_at(store, entry)),
+        Ok(Some(logged)) => Ok(Some(logged)),
+    }
+}
+
+/// In a table that is dead: a page leaves its chain; or once there is none, or none may leave, the entry is freed.
+fn unlink_or_free<D: Disk, O: Origin>(
+    store: &mut Store<D, O>,
+    entry: u8,
+) -> Result<Done, StoreFault>
+    requires room { HasRoomForOne 0 1 store.old }
+    requires there { entry < 32 }
+    ensures tries { Tries true O.first D.Disk store.old store.new result }
+    ensures cleans { (h : Heeded) → WhereSound O.first D.Disk (IsDatabaseState store.old.now → ((area_in store.old.now).title entry).state ≡ 2
+        → IfOk result (DidAt h (Entry entry) (HasNothingInDead entry store.old.now) store.old.now store.new.now)) }
+    ensures refused { WhereSound O.first D.Disk (IsDatabaseState store.old.now → ((area_in store.old.now).title entry).state ≡ 2 → IfErr result (λ f. f ≡ Fault)) }
+{
+    a_step_is_a_part::<D>();
+    a_part_goes_on::<D>();
+    room_is_still_there::<D>();
+    match unlink_any(store, entry) {
+        Err(fault) => Err(fault),
+        Ok(None) => freed(free_entry_at(store, entry)),
+        Ok(Some(logged)) => Ok(Some(logged)),
+    }
+}
+
+/// The same, where a page may leave its chain; else the entry may be freed.
+pub(crate) fn empty_entry<D: Disk, O: Origin>(
+    store: &mut Store<D, O>,
+    entry: u8,
+    may_unlink: bool,
+) -> Result<Done, StoreFault>
+    requires room { HasRoomFor may_unlink store.old }
+    requires there { entry < 32 }
+    ensures tries { Tries may_unlink O.first D.Disk store.old store.new result }
+    ensures cleans { (h : Heeded) → WhereSound O.first D.Disk (IsDatabaseState store.old.now → ((area_in store.old.now).title entry).state ≡ 2
+        → IfOk result (DidAt h (Entry entry) (may_unlink ≡ true → HasNothingInDead entry store.old.now) store.old.now store.new.now)) }
+    ensures refused { WhereSound O.first D.Disk (IsDatabaseState store.old.now → ((area_in store.old.now).title entry).state ≡ 2 → IfErr result (λ f. f ≡ Fault)) }
+{
+    a_step_is_a_part::<D>();
+    a_part_goes_on::<D>();
+    if may_unlink {
+        unlink_or_free(store, entry)
+    } else {
+        freed(free_entry_at(store, entry))
+    }
+}

@@ -1,0 +1,19 @@
+//! The cleaner's turn: at a position of a pass the first step that has something to do is taken, by one record; where none has, the pass goes on.
+//!
+//! Nothing here takes memory.
+#![tactic(auto)]
+
+mod done;
+mod emptying;
+mod entries;
+mod going;
+mod kept;
+mod keys;
+mod laws;
+mod rows;
+mod states;
+mod turning;
+
+pub use done::CleanTurn;
+pub use laws::{a_pass_that_finds_nothing_leaves_it_bare, what_is_found_stays};
+pub use turning::turn;
