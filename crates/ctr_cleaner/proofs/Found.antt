@@ -7,13 +7,13 @@ use Rattle.ctr_rec.specs.declared.record.SlogItem.TheVariants.{FreeOf}
 use Rattle.ctr_page.specs.declared.checks.Chain.TheVariants.{Rows, Versions}
 use Rattle.ctr_page.specs.declared.rows.Place.{Place}
 use Rattle.ctr_page.specs.Columns.{entry_in, first_in, versions_first_in}
-use Rattle.ctr_area.specs.Areas.{no_pages}
+use Rattle.ctr_area.specs.Areas.{Title, Area, no_pages}
 use Rattle.ctr_area.specs.Reading.{entry_bytes, bucket_numbers}
 use Rattle.ctr_area.specs.Images.{is_live}
 use Rattle.ctr_area.specs.Sound.{IsAmong}
 use Rattle.ctr_redo.specs.States.{State}
 use Rattle.ctr_record_effects.specs.States.{pages_in, area_in}
-use Rattle.ctr_record_laws.specs.Owed.{Reverting, Trimming, OwedByUnlink, OwedByOlderUnlink, OwedByFreeing}
+use Rattle.ctr_record_laws.specs.Owed.{Reverting, Trimming, OwedByUnlink, OwedByOlderUnlink}
 use Rattle.ctr_record_laws.proofs.Bounds.{pages_bounded}
 use Rattle.ctr_actions.specs.Sites.{site_of}
 use Rattle.ctr_actions.specs.Actions.{Action, Begins, Allocates, Formats, Links, LinksOlder, Keeps, Writes, Creates, Drops, Commits, Frees, Uncreates, Undrops, Aborts, Reclaims, Reverts, Trims, Cuts, FreesOlder, MakesDead, Unlinks, UnlinksOlder, FreesEntry, Forgets, Checkpoints}
@@ -30,7 +30,7 @@ use Rattle.ctr_clean.specs.Steps.{Locks, IsUnlocked, HasNoRevert, HasNoTrim, Rev
 use Rattle.ctr_clean.specs.Tables.{MakesDeadAt, OwesDying}
 use Rattle.ctr_clean.specs.declared.steps.Step.{Step}
 use Rattle.ctr_clean.specs.declared.steps.Step.TheVariants as step
-use Rattle.ctr_emptying.specs.Emptying.{UnlinksRowsAt, UnlinksVersionsAt, FreesEntryAt, HasNoRows, is_creator_open}
+use Rattle.ctr_emptying.specs.Emptying.{UnlinksRowsAt, UnlinksVersionsAt, FreesEntryAt, HasNoRows}
 use Rattle.ctr_emptying.specs.declared.emptied.Emptied.{Emptied}
 use Rattle.ctr_emptying.specs.declared.emptied.Emptied.TheVariants as emptied
 use Rattle.ctr_cursor.specs.declared.position.Position.{Position}
@@ -38,11 +38,16 @@ use Rattle.ctr_cursor.specs.declared.position.Position.TheVariants.{Entry, Slot,
 use Rattle.ctr_cursor.specs.Standing.{IsPosition, TakesPage}
 use Rattle.ctr_cursor.proofs.Stays.{free_none, no_chain}
 use Rattle.ctr_meta.specs.Kept.{TablesKept}
+use Rattle.ctr_cleaner.specs.declared.done.MayEmpty.{MayEmpty}
 use Rattle.ctr_cleaner.specs.declared.done.Logged.{Logged}
 use Rattle.ctr_cleaner.specs.declared.done.Logged.TheVariants.{Cleaned, Unlinked, Reclaimed}
 use Rattle.ctr_cleaner.specs.Finding.{IsFreeRow, HasNothingAt, HasNothingInSlot}
 use Rattle.ctr_cleaner.specs.Turning.{Heeded, heeding, IsOfOpenRow, CleansFreely, TurnsAt, next_cleaned, LeavesRoomBy, IsWithin}
-use Rattle.ctr_cleaner.specs.Parts.{Done, next_done, LeavesRoom, IsLetGo, turn_logged, DidAt, HasNoRowsToGo, KeySaid, OpenSaid, OpenOlderSaid, done_step, done_reclaim, done_freed, done_unlinked}
+use Rattle.ctr_cleaner.specs.Parts.{Done, next_done, LeavesRoom, IsLetGo, turn_logged, DidAt, HasNoRowsToGo, HasNoEntryToFree, KeySaid, OpenSaid, OpenOlderSaid, done_step, done_reclaim, done_freed, done_unlinked}
+
+-- everything may be done in a table that is dead
+abbrev pub everything : MayEmpty
+everything = record { unlink = true; free = true }
 
 -- an error of a step is one of the part
 pub step_err : (P : StoreFault → Type 0) (r : Result Step StoreFault) → IfErr r P → IfErr (done_step r) P
@@ -82,22 +87,24 @@ pub err_told : (P : StoreFault → Type 0) (r told : Result Done StoreFault) (e 
 err_told P r told e is same holds = subst (λ (q : Result Done StoreFault). IfErr q P) (sym is ∙ same) holds
 
 -- a step is one of the cleaner's, whose row isn't locked by the name of its table either
-freely : (low : ℕ) (locks : Locks) (spared : ℕ) (may : Bool) (x : Position) (s t : State) (one : CleansOne low locks s t) (a : Action) → one.action ≡ a → IsOfOpenRow locks a (site_of s)
-    → ((p : ℕ) → a ≡ Reclaims p → IsAmong (FreeOf p) (drop spared s.tables.items)) → (TakesPage a x → ⊥) → CleansFreely (heeding low locks spared may) x s t
-freely low locks spared may x s t one a is free spares stays = record {
+freely : (low : ℕ) (locks : Locks) (spared : ℕ) (may : MayEmpty) (x : Position) (s t : State) (one : CleansOne low locks s t) (a : Action) → one.action ≡ a → IsOfOpenRow locks a (site_of s)
+    → ((p : ℕ) → a ≡ Reclaims p → IsAmong (FreeOf p) (drop spared s.tables.items)) → ((e : ℕ) (title : Title) (left : Area) → a ≡ FreesEntry e title left → may.free ≡ true)
+    → (TakesPage a x → ⊥) → CleansFreely (heeding low locks spared may) x s t
+freely low locks spared may x s t one a is free spares frees stays = record {
   action = a;
   cleaning = subst (λ (b : Action). IsCleaning (passes_below low s.tables) b (site_of s)) is one.cleaning;
   free = free;
   spares = spares;
+  frees = frees;
   stays = stays;
   acts = subst (λ (b : Action). ActsBy s.tables.next b s t) is one.acts;
 }
 
 -- ---- in the lists of the tables
 
-pub forgets : (low : ℕ) (locks : Locks) (spared n : ℕ) (may : Bool) (s t : State) (r : Result Step StoreFault) → IfOk r (ForgetsAt low locks n s t)
+pub forgets : (low : ℕ) (locks : Locks) (spared n : ℕ) (may : MayEmpty) (s t : State) (r : Result Step StoreFault) → IfOk r (ForgetsAt low locks n s t)
     → IfOk (done_step r) (DidAt (heeding low locks spared may) (Aborted n) (HasNoForget n s.tables) s t)
-forgets low locks spared n may s t (Ok step.Cleaned) (one, (x, there, is)) = freely low locks spared may (Aborted n) s t one (Forgets x) is tt (λ p same. absurd cc) (λ takes. takes)
+forgets low locks spared n may s t (Ok step.Cleaned) (one, (x, there, is)) = freely low locks spared may (Aborted n) s t one (Forgets x) is tt (λ p same. absurd cc) (λ f title left same. absurd cc) (λ takes. takes)
 forgets low locks spared n may s t (Ok step.Nothing) did = did
 forgets low locks spared n may s t (Err e) did = tt
 
@@ -111,38 +118,38 @@ stays p (Aborted n) takes = takes
 page_same : (m n : ℕ) → Reclaims m ≡ Reclaims n → m ≡ n
 page_same m n same = cc
 
-pub reclaims : (low : ℕ) (locks : Locks) (spared : ℕ) (may : Bool) (x : Position) (s t : State) (r : Result Step StoreFault) → IfOk r (ReclaimsOne low locks spared s t)
+pub reclaims : (low : ℕ) (locks : Locks) (spared : ℕ) (may : MayEmpty) (x : Position) (s t : State) (r : Result Step StoreFault) → IfOk r (ReclaimsOne low locks spared s t)
     → IfOk (done_reclaim r) (DidAt (heeding low locks spared may) x (HasNoFree spared s.tables) s t)
 reclaims low locks spared may x s t (Ok step.Cleaned) (one, (p, is, among)) =
-    freely low locks spared may x s t one (Reclaims p) is tt (λ q same. subst (λ n. IsAmong (FreeOf n) (drop spared s.tables.items)) (page_same p q same) among) (stays p x)
+    freely low locks spared may x s t one (Reclaims p) is tt (λ q same. subst (λ n. IsAmong (FreeOf n) (drop spared s.tables.items)) (page_same p q same) among) (λ f title left same. absurd cc) (stays p x)
 reclaims low locks spared may x s t (Ok step.Nothing) did = did
 reclaims low locks spared may x s t (Err e) did = tt
 
 -- ---- at an entry of the catalog
 
-pub dies : (low : ℕ) (locks : Locks) (spared e : ℕ) (may : Bool) (s t : State) (r : Result Step StoreFault) → IfOk r (MakesDeadAt low locks e s t)
+pub dies : (low : ℕ) (locks : Locks) (spared e : ℕ) (may : MayEmpty) (s t : State) (r : Result Step StoreFault) → IfOk r (MakesDeadAt low locks e s t)
     → IfOk (done_step r) (DidAt (heeding low locks spared may) (Entry e) (OwesDying low e s → ⊥) s t)
-dies low locks spared e may s t (Ok step.Cleaned) (one, is) = freely low locks spared may (Entry e) s t one (MakesDead (passes_below low s.tables) e) is tt (λ p same. absurd cc) (λ takes. takes)
+dies low locks spared e may s t (Ok step.Cleaned) (one, is) = freely low locks spared may (Entry e) s t one (MakesDead (passes_below low s.tables) e) is tt (λ p same. absurd cc) (λ f title left same. absurd cc) (λ takes. takes)
 dies low locks spared e may s t (Ok step.Nothing) did = did
 dies low locks spared e may s t (Err e2) did = tt
 
 pub unlinks_rows : (h : Heeded) (e b : ℕ) (s t : State) (r : Result Emptied StoreFault) → ((area_in s).title e).state ≡ 2 → IfOk r (UnlinksRowsAt e b s t)
     → IfOk (done_unlinked r) (DidAt h (Entry e) ((p : ℕ) → OwedByUnlink s.tables (area_in s) p e b → ⊥) s t)
-unlinks_rows h e b s t (Ok emptied.OneRecord) dead (p, acts) = record { action = Unlinks p e b; cleaning = dead; free = tt; spares = λ q same. absurd cc; stays = λ takes. takes; acts = acts }
+unlinks_rows h e b s t (Ok emptied.OneRecord) dead (p, acts) = record { action = Unlinks p e b; cleaning = dead; free = tt; spares = λ q same. absurd cc; frees = λ f title left same. absurd cc; stays = λ takes. takes; acts = acts }
 unlinks_rows h e b s t (Ok emptied.Nothing) dead did = did
 unlinks_rows h e b s t (Err e2) dead did = tt
 
 pub unlinks_versions : (h : Heeded) (e : ℕ) (s t : State) (r : Result Emptied StoreFault) → ((area_in s).title e).state ≡ 2 → IfOk r (UnlinksVersionsAt e s t)
     → IfOk (done_unlinked r) (DidAt h (Entry e) (HasNoRows (area_in s) e → (p : ℕ) → OwedByOlderUnlink (area_in s) p e → ⊥) s t)
-unlinks_versions h e s t (Ok emptied.OneRecord) dead (p, none, acts) = record { action = UnlinksOlder p e; cleaning = dead; free = tt; spares = λ q same. absurd cc; stays = λ takes. takes; acts = acts }
+unlinks_versions h e s t (Ok emptied.OneRecord) dead (p, none, acts) = record { action = UnlinksOlder p e; cleaning = dead; free = tt; spares = λ q same. absurd cc; frees = λ f title left same. absurd cc; stays = λ takes. takes; acts = acts }
 unlinks_versions h e s t (Ok emptied.Nothing) dead did = did
 unlinks_versions h e s t (Err e2) dead did = tt
 
-pub frees_entry : (h : Heeded) (e : ℕ) (s t : State) (r : Result Emptied StoreFault) → IfOk r (FreesEntryAt e s t)
-    → IfOk (done_freed r) (DidAt h (Entry e) (is_creator_open s e ≡ false → OwedByFreeing (area_in s) e → ⊥) s t)
-frees_entry h e s t (Ok emptied.OneRecord) (closed, acts) = record { action = _; cleaning = tt; free = tt; spares = λ q same. absurd cc; stays = λ takes. takes; acts = acts }
-frees_entry h e s t (Ok emptied.Nothing) did = did
-frees_entry h e s t (Err e2) did = tt
+pub frees_entry : (h : Heeded) (e : ℕ) (s t : State) (r : Result Emptied StoreFault) → h.may.free ≡ true → IfOk r (FreesEntryAt e s t)
+    → IfOk (done_freed r) (DidAt h (Entry e) (HasNoEntryToFree e s) s t)
+frees_entry h e s t (Ok emptied.OneRecord) lets (closed, acts) = record { action = _; cleaning = tt; free = tt; spares = λ q same. absurd cc; frees = λ f title left same. lets; stays = λ takes. takes; acts = acts }
+frees_entry h e s t (Ok emptied.Nothing) lets did = did
+frees_entry h e s t (Err e2) lets did = tt
 
 -- ---- bucket by bucket
 
@@ -234,23 +241,23 @@ done_at e at (Undrops f) is = absurd is
 done_at e at Aborts is = absurd is
 done_at e at (Checkpoints lists) is = absurd is
 
-module _ (low : ℕ) (locks : Locks) (spared : ℕ) (may : Bool) (e b : ℕ) (at : Place) (s t : State) (unlocked : KeySaid locks e ((area_in s).slot at).key s true) where
+module _ (low : ℕ) (locks : Locks) (spared : ℕ) (may : MayEmpty) (e b : ℕ) (at : Place) (s t : State) (unlocked : KeySaid locks e ((area_in s).slot at).key s true) where
   pub cleans_slot : (r : Result Step StoreFault) → IfOk r (CleansSlot low locks e at s t)
       → IfOk (done_step r) (DidAt (heeding low locks spared may) (Slot e b at) (HasNoRevert locks e at s × HasNoTrim low locks e at s) s t)
   cleans_slot (Ok step.Cleaned) (one, is) = ⊎_elim
-      (λ reverts. freely low locks spared may (Slot e b at) s t one (Reverts e at reverts.0) reverts.1 unlocked.1 (λ p same. absurd cc) (λ takes. takes))
-      (λ trims. freely low locks spared may (Slot e b at) s t one (Trims trims.0 e at trims.1) trims.2 unlocked.1 (λ p same. absurd cc) (λ takes. takes))
+      (λ reverts. freely low locks spared may (Slot e b at) s t one (Reverts e at reverts.0) reverts.1 unlocked.1 (λ p same. absurd cc) (λ f title left same. absurd cc) (λ takes. takes))
+      (λ trims. freely low locks spared may (Slot e b at) s t one (Trims trims.0 e at trims.1) trims.2 unlocked.1 (λ p same. absurd cc) (λ f title left same. absurd cc) (λ takes. takes))
       (done_at e at one.action is)
   cleans_slot (Ok step.Nothing) did = (did.0, (did.1, did.2))
   cleans_slot (Err e2) did = tt
 
   pub cuts_slot : (r : Result Step StoreFault) → IfOk r (CutsAt low locks e at s t) → IfOk (done_step r) (DidAt (heeding low locks spared may) (Slot e b at) (HasNoCut low locks e at s) s t)
-  cuts_slot (Ok step.Cleaned) (one, (q, is)) = freely low locks spared may (Slot e b at) s t one (Cuts (passes_below low s.tables) e at q) is unlocked.1 (λ p same. absurd cc) (λ takes. takes)
+  cuts_slot (Ok step.Cleaned) (one, (q, is)) = freely low locks spared may (Slot e b at) s t one (Cuts (passes_below low s.tables) e at q) is unlocked.1 (λ p same. absurd cc) (λ f title left same. absurd cc) (λ takes. takes)
   cuts_slot (Ok step.Nothing) did = did
   cuts_slot (Err e2) did = tt
 
   pub reverts_slot : (r : Result Step StoreFault) → IfOk r (RevertsAt low locks e at s t) → IfOk (done_step r) (DidAt (heeding low locks spared may) (Slot e b at) (HasNoRevert locks e at s) s t)
-  reverts_slot (Ok step.Cleaned) (one, (way, is)) = freely low locks spared may (Slot e b at) s t one (Reverts e at way) is unlocked.1 (λ p same. absurd cc) (λ takes. takes)
+  reverts_slot (Ok step.Cleaned) (one, (way, is)) = freely low locks spared may (Slot e b at) s t one (Reverts e at way) is unlocked.1 (λ p same. absurd cc) (λ f title left same. absurd cc) (λ takes. takes)
   reverts_slot (Ok step.Nothing) did = did
   reverts_slot (Err e2) did = tt
 
@@ -266,9 +273,9 @@ module _ (low : ℕ) (locks : Locks) (e : ℕ) (at : Place) (s : State) where
 
 -- ---- at a version entry
 
-pub frees_older : (low : ℕ) (locks : Locks) (spared e : ℕ) (may : Bool) (q : Place) (s t : State) → KeySaid locks e ((area_in s).older q).key s true → (r : Result Step StoreFault)
+pub frees_older : (low : ℕ) (locks : Locks) (spared e : ℕ) (may : MayEmpty) (q : Place) (s t : State) → KeySaid locks e ((area_in s).older q).key s true → (r : Result Step StoreFault)
     → IfOk r (FreesAt low locks e q s t) → IfOk (done_step r) (DidAt (heeding low locks spared may) (Kept e q) (HasNothingAt (IsFreeRow locks s) low (Kept e q) s) s t)
-frees_older low locks spared e may q s t unlocked (Ok step.Cleaned) (one, is) = freely low locks spared may (Kept e q) s t one (FreesOlder e q) is unlocked.1 (λ p same. absurd cc) (λ takes. takes)
+frees_older low locks spared e may q s t unlocked (Ok step.Cleaned) (one, is) = freely low locks spared may (Kept e q) s t one (FreesOlder e q) is unlocked.1 (λ p same. absurd cc) (λ f title left same. absurd cc) (λ takes. takes)
 frees_older low locks spared e may q s t unlocked (Ok step.Nothing) (same, none) = (same, λ live free loose. none unlocked.0 loose)
 frees_older low locks spared e may q s t unlocked (Err e2) did = tt
 

@@ -9,7 +9,7 @@ use Rattle.ctr_area.specs.Chains.{slot_places}
 use Rattle.ctr_area.specs.Sound.{IsAmong}
 use Rattle.ctr_redo.specs.States.{State}
 use Rattle.ctr_record_effects.specs.States.{area_in}
-use Rattle.ctr_record_laws.specs.Owed.{OwedByUnlink, OwedByOlderUnlink}
+use Rattle.ctr_record_laws.specs.Owed.{OwedByUnlink, OwedByOlderUnlink, OwedByFreeing}
 use Rattle.ctr_store.specs.Store.{View}
 use Rattle.ctr_walk.specs.OneRecord.{HasRoomForOne}
 use Rattle.ctr_page_turns.specs.Rooms.{AddsItems}
@@ -20,7 +20,7 @@ use Rattle.ctr_clean.specs.Lists.{HasNoFree}
 use Rattle.ctr_clean.specs.Steps.{Locks, IsUnlocked}
 use Rattle.ctr_clean.specs.declared.steps.Step.{Step}
 use Rattle.ctr_clean.specs.declared.steps.Step.TheVariants as step
-use Rattle.ctr_emptying.specs.Emptying.{HasNoRows}
+use Rattle.ctr_emptying.specs.Emptying.{HasNoRows, is_creator_open}
 use Rattle.ctr_emptying.specs.declared.emptied.Emptied.{Emptied}
 use Rattle.ctr_emptying.specs.declared.emptied.Emptied.TheVariants as emptied
 use Rattle.ctr_cursor.specs.declared.position.Position.{Position}
@@ -29,7 +29,7 @@ use Rattle.ctr_cleaner.specs.declared.done.CleanTurn.TheVariants as turn
 use Rattle.ctr_cleaner.specs.declared.done.Logged.{Logged}
 use Rattle.ctr_cleaner.specs.declared.done.Logged.TheVariants.{Cleaned, Unlinked, Reclaimed}
 use Rattle.ctr_cleaner.specs.Finding.{IsFreeRow, HasNothingAt}
-use Rattle.ctr_cleaner.specs.Turning.{Heeded, CleansFreely}
+use Rattle.ctr_cleaner.specs.Turning.{Heeded, MayAll, CleansFreely}
 
 -- what a part did: it logged one record, or nothing
 abbrev pub Done : Type 0
@@ -68,10 +68,10 @@ DidAt h x Found s t None = (t ≡ s) × Found
 DidAt h x Found s t (Some logged) = CleansFreely h x s t
 
 -- What holds where a whole turn finds nothing to do: no page waits to be free again, and there is
--- nothing at the position, where a page may leave its chain.
+-- nothing at the position, where everything may be done in a table that is dead.
 abbrev pub IsPassed : Heeded → Position → State → Type 0
 IsPassed h x s = HasNoFree h.spared s.tables
-    × (h.may_unlink ≡ true → HasNothingAt (IsFreeRow h.locks s) h.low x s)
+    × (MayAll h.may → HasNothingAt (IsFreeRow h.locks s) h.low x s)
 
 -- There is room for a record, and for an item where a page may leave its chain.
 pub record HasRoomFor {D : Type 0} (may_unlink : Bool) (v : View D) : Type 0 where
@@ -88,6 +88,10 @@ HasNoRowsToGo e s = (p b : ℕ) → OwedByUnlink s.tables (area_in s) p e b → 
 abbrev pub HasNoPageToGo : ℕ → State → Type 0
 HasNoPageToGo e s = HasNoRowsToGo e s
     × (HasNoRows (area_in s) e → (p : ℕ) → OwedByOlderUnlink (area_in s) p e → ⊥)
+
+-- nor may it be freed, unless who made it is open
+abbrev pub HasNoEntryToFree : ℕ → State → Type 0
+HasNoEntryToFree e s = is_creator_open s e ≡ false → OwedByFreeing (area_in s) e → ⊥
 
 -- ---- what was read
 

@@ -2,10 +2,11 @@
 use Rattle.std.specs.Prelude.{◌≡◌, ℕ, ◌+◌, Bool, true, drop, length, Option, Some, None}
 use Rattle.ctr_rec.specs.declared.record.SlogItem.TheVariants.{FreeOf}
 use Rattle.ctr_meta.specs.Kept.{TablesKept}
+use Rattle.ctr_area.specs.Areas.{Title, Area}
 use Rattle.ctr_area.specs.Sound.{IsAmong}
 use Rattle.ctr_redo.specs.States.{State}
 use Rattle.ctr_actions.specs.Sites.{Site, site_of}
-use Rattle.ctr_actions.specs.Actions.{Action, Reverts, Trims, Cuts, FreesOlder, Reclaims}
+use Rattle.ctr_actions.specs.Actions.{Action, Reverts, Trims, Cuts, FreesOlder, FreesEntry, Reclaims}
 use Rattle.ctr_actions.specs.Cleaning.{IsCleaning}
 use Rattle.ctr_page_turns.specs.Acts.{ActsBy}
 use Rattle.ctr_page_turns.specs.Rooms.{AddsItems}
@@ -17,23 +18,28 @@ use Rattle.ctr_clean.specs.Steps.{Locks}
 use Rattle.ctr_cursor.specs.declared.position.Position.{Position}
 use Rattle.ctr_cursor.specs.Pass.{next_position}
 use Rattle.ctr_cursor.specs.Standing.{IsCountedPosition, TakesPage}
+use Rattle.ctr_cleaner.specs.declared.done.MayEmpty.{MayEmpty}
 use Rattle.ctr_cleaner.specs.declared.done.CleanTurn.{CleanTurn}
 use Rattle.ctr_cleaner.specs.declared.done.CleanTurn.TheVariants.{Cleaned, Unlinked, Reclaimed, Moved, Over}
 use Rattle.ctr_cleaner.specs.Finding.{IsFreeRow, HasNothingAt}
 
 -- What the cleaner heeds: below which number everybody sees what is committed, who has locked which
--- rows, how many items at the front of the secondary log are undo's, and whether a page may leave
--- its chain.
+-- rows, how many items at the front of the secondary log are undo's, and what may be done in a table
+-- that is dead.
 pub record Heeded : Type 0 where
   pub low : ℕ
   pub locks : Locks
   pub spared : ℕ
-  pub may_unlink : Bool
+  pub may : MayEmpty
 
 -- what the cleaner heeds, of these
-abbrev pub heeding : ℕ → Locks → ℕ → Bool → Heeded
+abbrev pub heeding : ℕ → Locks → ℕ → MayEmpty → Heeded
 heeding low locks spared may =
-    record { low = low; locks = locks; spared = spared; may_unlink = may }
+    record { low = low; locks = locks; spared = spared; may = may }
+
+-- everything may be done in a table that is dead
+abbrev pub MayAll : MayEmpty → Type 0
+MayAll may = (may.unlink ≡ true) × (may.free ≡ true)
 
 -- The row that an action is about isn't locked, in an entry of its table's name.
 abbrev pub IsOfOpenRow : Locks → Action → Site → Type 0
@@ -46,23 +52,25 @@ IsOfOpenRow locks (FreesOlder e q) s = IsUnlockedAs (names_of s.area) locks e (s
 IsOfOpenRow locks a s = Unit {0}
 
 -- A state is left by an action of the cleaner's for nobody, which owes nothing more in the one
--- before. Its row isn't locked; a page that is given back is that of an item behind undo's; and the
--- position's page stays in its chain.
+-- before. Its row isn't locked; a page that is given back is that of an item behind undo's; an entry
+-- is freed only where it may; and the position's page stays in its chain.
 pub record CleansFreely (h : Heeded) (x : Position) (s t : State) : Type 0 where
   pub action : Action
   pub cleaning : IsCleaning (passes_below h.low s.tables) action (site_of s)
   pub free : IsOfOpenRow h.locks action (site_of s)
   pub spares : (p : ℕ) → action ≡ Reclaims p → IsAmong (FreeOf p) (drop h.spared s.tables.items)
+  pub frees : (e : ℕ) (title : Title) (left : Area) → action ≡ FreesEntry e title left
+      → h.may.free ≡ true
   pub stays : TakesPage action x → ⊥
   pub acts : ActsBy s.tables.next action s t
 
 -- The state is as it was. No page waits to be free again but undo's. There is nothing to do at the
--- position, which is said only where a page may leave its chain. And this is the position behind
--- it, if any.
+-- position, which is said only where everything may be done in a table that is dead. And this is
+-- the position behind it, if any.
 pub record PassesBy (h : Heeded) (x : Position) (y : Option Position) (s t : State) : Type 0 where
   pub same : t ≡ s
   pub free : HasNoFree h.spared s.tables
-  pub nothing : h.may_unlink ≡ true → HasNothingAt (IsFreeRow h.locks s) h.low x s
+  pub nothing : MayAll h.may → HasNothingAt (IsFreeRow h.locks s) h.low x s
   pub behind : next_position (site_of s) x ≡ y
 
 -- What a turn did at its position.

@@ -7,6 +7,15 @@ use ctr_cursor::Position;
 use ctr_disk::StoreFault;
 use ctr_emptying::Emptied;
 
+/// What a turn may do in a table that is dead.
+#[derive(Clone, Copy, Debug, PartialEq, Eq)]
+pub struct MayEmpty {
+    /// Its pages may leave their chains: there is room for an item of the secondary log.
+    pub unlink: bool,
+    /// Its entry may be freed, once it has no page.
+    pub free: bool,
+}
+
 /// What a turn of the cleaner did at its position.
 #[derive(Clone, Copy, Debug, PartialEq, Eq)]
 pub enum CleanTurn {

@@ -1,5 +1,5 @@
 // In a table that is dead.
-ghost use Rattle.std.specs.Prelude.{◌≡◌, ◌<◌, true, IfOk, IfErr};
+ghost use Rattle.std.specs.Prelude.{◌≡◌, ◌<◌, true, false, IfOk, IfErr};
 ghost use Rattle.ctr_disk.specs.declared.fault.StoreFault.TheVariants.{Fault};
 ghost use Rattle.ctr_base.specs.Base.{WhereSound};
 ghost use Rattle.ctr_record_effects.specs.States.{area_in};
@@ -7,10 +7,10 @@ ghost use Rattle.ctr_record_effects.specs.Standing.{IsDatabaseState};
 ghost use Rattle.ctr_walk.specs.OneRecord.{HasRoomForOne};
 ghost use Rattle.ctr_cursor.specs.declared.position.Position.TheVariants.{Entry};
 ghost use Rattle.ctr_cleaner.specs.Finding.{HasNothingInDead};
-ghost use Rattle.ctr_cleaner.specs.Turning.{Heeded};
-ghost use Rattle.ctr_cleaner.specs.Parts.{Tries, DidAt, HasRoomFor, HasNoRowsToGo, HasNoPageToGo};
+ghost use Rattle.ctr_cleaner.specs.Turning.{Heeded, MayAll};
+ghost use Rattle.ctr_cleaner.specs.Parts.{Tries, DidAt, HasRoomFor, HasNoRowsToGo, HasNoPageToGo, HasNoEntryToFree};
 
-use crate::done::{Done, freed, unlinked};
+use crate::done::{Done, MayEmpty, freed, unlinked};
 use crate::going::{a_part_goes_on, a_step_is_a_part};
 use ctr_base::Origin;
 use ctr_disk::{Disk, StoreFault};
@@ -61,16 +61,40 @@ fn unlink_any<D: Disk, O: Origin>(store: &mut Store<D, O>, entry: u8) -> Result<
     }
 }
 
-/// In a table that is dead: a page leaves its chain; or once there is none, or none may leave, the entry is freed.
+/// The entry of a table that is dead is freed, where it may be.
+fn free_where_it_may<D: Disk, O: Origin>(
+    store: &mut Store<D, O>,
+    entry: u8,
+    may_free: bool,
+) -> Result<Done, StoreFault>
+    requires room { HasRoomForOne 0 0 store.old }
+    requires there { entry < 32 }
+    ensures tries { Tries false O.first D.Disk store.old store.new result }
+    ensures cleans { (h : Heeded) → h.may.free ≡ may_free → WhereSound O.first D.Disk (IsDatabaseState store.old.now
+        → IfOk result (DidAt h (Entry entry) (may_free ≡ true → HasNoEntryToFree entry store.old.now) store.old.now store.new.now)) }
+    ensures refused { WhereSound O.first D.Disk (IsDatabaseState store.old.now → IfErr result (λ f. f ≡ Fault)) }
+{
+    a_step_is_a_part::<D>();
+    a_part_goes_on::<D>();
+    store.rests();
+    if may_free {
+        freed(free_entry_at(store, entry))
+    } else {
+        Ok(None)
+    }
+}
+
+/// In a table that is dead: a page leaves its chain; or once there is none, or none may leave, the entry is freed, where it may be.
 fn unlink_or_free<D: Disk, O: Origin>(
     store: &mut Store<D, O>,
     entry: u8,
+    may_free: bool,
 ) -> Result<Done, StoreFault>
     requires room { HasRoomForOne 0 1 store.old }
     requires there { entry < 32 }
     ensures tries { Tries true O.first D.Disk store.old store.new result }
-    ensures cleans { (h : Heeded) → WhereSound O.first D.Disk (IsDatabaseState store.old.now → ((area_in store.old.now).title entry).state ≡ 2
-        → IfOk result (DidAt h (Entry entry) (HasNothingInDead entry store.old.now) store.old.now store.new.now)) }
+    ensures cleans { (h : Heeded) → h.may.free ≡ may_free → WhereSound O.first D.Disk (IsDatabaseState store.old.now → ((area_in store.old.now).title entry).state ≡ 2
+        → IfOk result (DidAt h (Entry entry) (may_free ≡ true → HasNothingInDead entry store.old.now) store.old.now store.new.now)) }
     ensures refused { WhereSound O.first D.Disk (IsDatabaseState store.old.now → ((area_in store.old.now).title entry).state ≡ 2 → IfErr result (λ f. f ≡ Fault)) }
 {
     a_step_is_a_part::<D>();
@@ -78,29 +102,29 @@ fn unlink_or_free<D: Disk, O: Origin>(
     room_is_still_there::<D>();
     match unlink_any(store, entry) {
         Err(fault) => Err(fault),
-        Ok(None) => freed(free_entry_at(store, entry)),
+        Ok(None) => free_where_it_may(store, entry, may_free),
         Ok(Some(logged)) => Ok(Some(logged)),
     }
 }
 
-/// The same, where a page may leave its chain; else the entry may be freed.
+/// The same, where a page may leave its chain; else the entry is freed, where it may be.
 pub(crate) fn empty_entry<D: Disk, O: Origin>(
     store: &mut Store<D, O>,
     entry: u8,
-    may_unlink: bool,
+    may: MayEmpty,
 ) -> Result<Done, StoreFault>
-    requires room { HasRoomFor may_unlink store.old }
+    requires room { HasRoomFor may.unlink store.old }
     requires there { entry < 32 }
-    ensures tries { Tries may_unlink O.first D.Disk store.old store.new result }
-    ensures cleans { (h : Heeded) → WhereSound O.first D.Disk (IsDatabaseState store.old.now → ((area_in store.old.now).title entry).state ≡ 2
-        → IfOk result (DidAt h (Entry entry) (may_unlink ≡ true → HasNothingInDead entry store.old.now) store.old.now store.new.now)) }
+    ensures tries { Tries may.unlink O.first D.Disk store.old store.new result }
+    ensures cleans { (h : Heeded) → h.may ≡ may → WhereSound O.first D.Disk (IsDatabaseState store.old.now → ((area_in store.old.now).title entry).state ≡ 2
+        → IfOk result (DidAt h (Entry entry) (MayAll may → HasNothingInDead entry store.old.now) store.old.now store.new.now)) }
     ensures refused { WhereSound O.first D.Disk (IsDatabaseState store.old.now → ((area_in store.old.now).title entry).state ≡ 2 → IfErr result (λ f. f ≡ Fault)) }
 {
     a_step_is_a_part::<D>();
     a_part_goes_on::<D>();
-    if may_unlink {
-        unlink_or_free(store, entry)
+    if may.unlink {
+        unlink_or_free(store, entry, may.free)
     } else {
-        freed(free_entry_at(store, entry))
+        free_where_it_may(store, entry, may.free)
     }
 }

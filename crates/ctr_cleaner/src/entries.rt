@@ -1,5 +1,5 @@
 // At an entry of the catalog.
-ghost use Rattle.std.specs.Prelude.{◌≡◌, ◌<◌, ℕ, Bool, true, IfOk, IfErr};
+ghost use Rattle.std.specs.Prelude.{◌≡◌, ◌<◌, ℕ, IfOk, IfErr};
 ghost use Rattle.ctr_disk.specs.declared.fault.StoreFault.TheVariants.{Fault};
 ghost use Rattle.ctr_base.specs.Base.{WhereSound};
 ghost use Rattle.ctr_record_effects.specs.States.{area_in};
@@ -7,10 +7,10 @@ ghost use Rattle.ctr_record_effects.specs.Standing.{IsDatabaseState};
 ghost use Rattle.ctr_clean.specs.Steps.{Locks};
 ghost use Rattle.ctr_cursor.specs.declared.position.Position.TheVariants.{Entry};
 ghost use Rattle.ctr_cleaner.specs.Finding.{IsFreeRow, HasNothingAt, HasNothingInDead};
-ghost use Rattle.ctr_cleaner.specs.Turning.{Heeded, heeding};
+ghost use Rattle.ctr_cleaner.specs.Turning.{Heeded, MayAll, heeding};
 ghost use Rattle.ctr_cleaner.specs.Parts.{Tries, DidAt, HasRoomFor};
 
-use crate::done::{Done, stepped};
+use crate::done::{Done, MayEmpty, stepped};
 use crate::emptying::empty_entry;
 use crate::going::{a_part_goes_on, a_part_reads, a_step_is_a_part};
 use crate::states::is_dead;
@@ -25,13 +25,13 @@ use ctr_types::Xid;
 fn clean_dead<D: Disk, O: Origin>(
     store: &mut Store<D, O>,
     entry: u8,
-    may_unlink: bool,
+    may: MayEmpty,
 ) -> Result<Done, StoreFault>
-    requires room { HasRoomFor may_unlink store.old }
+    requires room { HasRoomFor may.unlink store.old }
     requires there { entry < 32 }
-    ensures tries { Tries may_unlink O.first D.Disk store.old store.new result }
-    ensures cleans { (h : Heeded) → WhereSound O.first D.Disk (IsDatabaseState store.old.now
-        → IfOk result (DidAt h (Entry entry) (may_unlink ≡ true → ((area_in store.old.now).title entry).state ≡ 2 → HasNothingInDead entry store.old.now)
+    ensures tries { Tries may.unlink O.first D.Disk store.old store.new result }
+    ensures cleans { (h : Heeded) → h.may ≡ may → WhereSound O.first D.Disk (IsDatabaseState store.old.now
+        → IfOk result (DidAt h (Entry entry) (MayAll may → ((area_in store.old.now).title entry).state ≡ 2 → HasNothingInDead entry store.old.now)
         store.old.now store.new.now)) }
     ensures refused { WhereSound O.first D.Disk (IsDatabaseState store.old.now → IfErr result (λ f. f ≡ Fault)) }
 {
@@ -40,7 +40,7 @@ fn clean_dead<D: Disk, O: Origin>(
         Err(fault) => Err(fault),
         Ok(title) => {
             if is_dead(&title) {
-                empty_entry(store, entry, may_unlink)
+                empty_entry(store, entry, may)
             } else {
                 Ok(None)
             }
@@ -48,26 +48,26 @@ fn clean_dead<D: Disk, O: Origin>(
     }
 }
 
-/// At an entry: its table dies, where everybody sees its drop; of one that is dead a page leaves its chain, or it is freed.
+/// At an entry: its table dies, where everybody sees its drop; of one that is dead a page leaves its chain, or it is freed, where they may.
 pub(crate) fn clean_entry<D: Disk, O: Origin>(
     store: &mut Store<D, O>,
     low: Xid,
     entry: u8,
-    may_unlink: bool,
+    may: MayEmpty,
 ) -> Result<Done, StoreFault>
-    requires room { HasRoomFor may_unlink store.old }
+    requires room { HasRoomFor may.unlink store.old }
     requires there { entry < 32 }
-    ensures tries { Tries may_unlink O.first D.Disk store.old store.new result }
-    ensures cleans { (locks : Locks) (spared : ℕ) (may : Bool) → WhereSound O.first D.Disk (IsDatabaseState store.old.now
+    ensures tries { Tries may.unlink O.first D.Disk store.old store.new result }
+    ensures cleans { (locks : Locks) (spared : ℕ) → WhereSound O.first D.Disk (IsDatabaseState store.old.now
         → IfOk result (DidAt (heeding low locks spared may) (Entry entry)
-        (may_unlink ≡ true → HasNothingAt (IsFreeRow locks store.old.now) low (Entry entry) store.old.now) store.old.now store.new.now)) }
+        (MayAll may → HasNothingAt (IsFreeRow locks store.old.now) low (Entry entry) store.old.now) store.old.now store.new.now)) }
     ensures refused { WhereSound O.first D.Disk (IsDatabaseState store.old.now → IfErr result (λ f. f ≡ Fault)) }
 {
     a_step_is_a_part::<D>();
     a_part_goes_on::<D>();
     match stepped(make_dead_at(store, low, entry)) {
         Err(fault) => Err(fault),
-        Ok(None) => clean_dead(store, entry, may_unlink),
+        Ok(None) => clean_dead(store, entry, may),
         Ok(Some(logged)) => Ok(Some(logged)),
     }
 }

@@ -1,5 +1,5 @@
 // At a version entry.
-ghost use Rattle.std.specs.Prelude.{◌≡◌, ◌≢◌, ◌<◌, ℕ, Bool, true, false, IfOk, IfErr};
+ghost use Rattle.std.specs.Prelude.{◌≡◌, ◌≢◌, ◌<◌, ℕ, true, false, IfOk, IfErr};
 ghost use Rattle.ctr_disk.specs.declared.fault.StoreFault.TheVariants.{Fault};
 ghost use Rattle.ctr_base.specs.Base.{WhereSound};
 ghost use Rattle.ctr_area.specs.Chains.{older_places};
@@ -13,6 +13,7 @@ ghost use Rattle.ctr_walk.specs.Damage.{ReadsPages};
 ghost use Rattle.ctr_cursor.specs.declared.position.Position.TheVariants.{Kept};
 ghost use Rattle.ctr_cursor.specs.Standing.{IsPosition};
 ghost use Rattle.ctr_cleaner.specs.Finding.{IsFreeRow, HasNothingAt};
+ghost use Rattle.ctr_cleaner.specs.declared.done.MayEmpty.{MayEmpty};
 ghost use Rattle.ctr_cleaner.specs.Turning.{heeding};
 ghost use Rattle.ctr_cleaner.specs.Parts.{Tries, DidAt, OpenOlderSaid};
 
@@ -63,7 +64,7 @@ fn clean_older<D: Disk, O: Origin>(
     requires room { HasRoomForOne 0 0 store.old }
     requires there { (entry < 32) × (place.page < store.old.now.counted) }
     ensures tries { Tries false O.first D.Disk store.old store.new result }
-    ensures cleans { (low spared : ℕ) (may : Bool) → WhereSound O.first D.Disk (IsDatabaseState store.old.now → IsPosition (Kept entry place) (site_of store.old.now)
+    ensures cleans { (low spared : ℕ) (may : MayEmpty) → WhereSound O.first D.Disk (IsDatabaseState store.old.now → IsPosition (Kept entry place) (site_of store.old.now)
         → is_live_title ((area_in store.old.now).title entry) ≡ true → IfOk result (DidAt (heeding low locks.now spared may) (Kept entry place)
         (HasNothingAt (IsFreeRow locks.now store.old.now) low (Kept entry place) store.old.now) store.old.now store.new.now)) }
     ensures refused { WhereSound O.first D.Disk (IsDatabaseState store.old.now → IsPosition (Kept entry place) (site_of store.old.now)
@@ -88,7 +89,7 @@ pub(crate) fn clean_kept<D: Disk, O: Origin>(
     requires room { HasRoomForOne 0 0 store.old }
     requires there { (entry < 32) × (place.page < store.old.now.counted) }
     ensures tries { Tries false O.first D.Disk store.old store.new result }
-    ensures cleans { (low spared : ℕ) (may : Bool) → WhereSound O.first D.Disk (IsDatabaseState store.old.now → IsPosition (Kept entry place) (site_of store.old.now)
+    ensures cleans { (low spared : ℕ) (may : MayEmpty) → WhereSound O.first D.Disk (IsDatabaseState store.old.now → IsPosition (Kept entry place) (site_of store.old.now)
         → IfOk result (DidAt (heeding low locks.now spared may) (Kept entry place)
         (HasNothingAt (IsFreeRow locks.now store.old.now) low (Kept entry place) store.old.now) store.old.now store.new.now)) }
     ensures refused { WhereSound O.first D.Disk (IsDatabaseState store.old.now → IsPosition (Kept entry place) (site_of store.old.now) → IfErr result (λ f. f ≡ Fault)) }

@@ -14,6 +14,6 @@ mod rows;
 mod states;
 mod turning;
 
-pub use done::CleanTurn;
+pub use done::{CleanTurn, MayEmpty};
 pub use laws::{a_pass_that_finds_nothing_leaves_it_bare, what_is_found_stays};
 pub use turning::turn;

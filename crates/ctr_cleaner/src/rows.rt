@@ -1,5 +1,5 @@
 // At a slot.
-ghost use Rattle.std.specs.Prelude.{◌≡◌, ◌≢◌, ◌<◌, ℕ, Bool, true, false, IfOk, IfErr};
+ghost use Rattle.std.specs.Prelude.{◌≡◌, ◌≢◌, ◌<◌, ℕ, true, false, IfOk, IfErr};
 ghost use Rattle.ctr_disk.specs.declared.fault.StoreFault.TheVariants.{Fault};
 ghost use Rattle.ctr_base.specs.Base.{WhereSound};
 ghost use Rattle.ctr_area.specs.Chains.{slot_places};
@@ -13,6 +13,7 @@ ghost use Rattle.ctr_walk.specs.OneRecord.{HasRoomForOne};
 ghost use Rattle.ctr_cursor.specs.declared.position.Position.TheVariants.{Slot};
 ghost use Rattle.ctr_cursor.specs.Standing.{IsPosition};
 ghost use Rattle.ctr_cleaner.specs.Finding.{IsFreeRow, HasNothingAt, HasNothingInSlot};
+ghost use Rattle.ctr_cleaner.specs.declared.done.MayEmpty.{MayEmpty};
 ghost use Rattle.ctr_cleaner.specs.Turning.{heeding};
 ghost use Rattle.ctr_cleaner.specs.Parts.{Tries, DidAt, OpenSaid, IsOpenSlot};
 
@@ -64,7 +65,7 @@ fn clean_live<D: Disk, O: Origin>(
     requires room { HasRoomForOne 0 0 store.old }
     requires there { place.page < store.old.now.counted }
     ensures tries { Tries false O.first D.Disk store.old store.new result }
-    ensures cleans { (b spared : ℕ) (may : Bool) → WhereSound O.first D.Disk (IsDatabaseState store.old.now → IsOpenSlot locks.now entry place store.old.now
+    ensures cleans { (b spared : ℕ) (may : MayEmpty) → WhereSound O.first D.Disk (IsDatabaseState store.old.now → IsOpenSlot locks.now entry place store.old.now
         → is_live_title ((area_in store.old.now).title entry) ≡ true
         → IfOk result (DidAt (heeding low locks.now spared may) (Slot entry b place) (HasNothingInSlot low entry place store.old.now) store.old.now store.new.now)) }
     ensures refused { WhereSound O.first D.Disk (IsDatabaseState store.old.now → IsOpenSlot locks.now entry place store.old.now
@@ -91,7 +92,7 @@ fn clean_open<D: Disk, O: Origin>(
     requires room { HasRoomForOne 0 0 store.old }
     requires there { place.page < store.old.now.counted }
     ensures tries { Tries false O.first D.Disk store.old store.new result }
-    ensures cleans { (b spared : ℕ) (may : Bool) → WhereSound O.first D.Disk (IsDatabaseState store.old.now → IsOpenSlot locks.now entry place store.old.now
+    ensures cleans { (b spared : ℕ) (may : MayEmpty) → WhereSound O.first D.Disk (IsDatabaseState store.old.now → IsOpenSlot locks.now entry place store.old.now
         → is_live_title ((area_in store.old.now).title entry) ≡ live
         → IfOk result (DidAt (heeding low locks.now spared may) (Slot entry b place) (HasNothingInSlot low entry place store.old.now) store.old.now store.new.now)) }
     ensures refused { WhereSound O.first D.Disk (IsDatabaseState store.old.now → IsOpenSlot locks.now entry place store.old.now
@@ -116,7 +117,7 @@ pub(crate) fn clean_row<D: Disk, O: Origin>(
     requires room { HasRoomForOne 0 0 store.old }
     requires there { (entry < 32) × (place.page < store.old.now.counted) }
     ensures tries { Tries false O.first D.Disk store.old store.new result }
-    ensures cleans { (b spared : ℕ) (may : Bool) → WhereSound O.first D.Disk (IsDatabaseState store.old.now → IsPosition (Slot entry b place) (site_of store.old.now)
+    ensures cleans { (b spared : ℕ) (may : MayEmpty) → WhereSound O.first D.Disk (IsDatabaseState store.old.now → IsPosition (Slot entry b place) (site_of store.old.now)
         → IfOk result (DidAt (heeding low locks.now spared may) (Slot entry b place)
         (HasNothingAt (IsFreeRow locks.now store.old.now) low (Slot entry b place) store.old.now) store.old.now store.new.now)) }
     ensures refused { (b : ℕ) → WhereSound O.first D.Disk (IsDatabaseState store.old.now → IsPosition (Slot entry b place) (site_of store.old.now) → IfErr result (λ f. f ≡ Fault)) }

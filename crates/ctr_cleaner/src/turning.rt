@@ -8,10 +8,10 @@ ghost use Rattle.ctr_walk.specs.OneRecord.{HasRoomForOne};
 ghost use Rattle.ctr_page_turns.specs.Turns.{Turns};
 ghost use Rattle.ctr_cursor.specs.Standing.{IsPosition, IsCountedPosition};
 ghost use Rattle.ctr_cleaner.specs.Finding.{IsFreeRow, HasNothingAt};
-ghost use Rattle.ctr_cleaner.specs.Turning.{heeding, TurnsAt, next_cleaned, LeavesRoomBy, IsWithin};
+ghost use Rattle.ctr_cleaner.specs.Turning.{heeding, MayAll, TurnsAt, next_cleaned, LeavesRoomBy, IsWithin};
 ghost use Rattle.ctr_cleaner.specs.Parts.{Tries, DidAt, IsPassed, HasRoomFor};
 
-use crate::done::{CleanTurn, Done, reclaimed, stepped, told};
+use crate::done::{CleanTurn, Done, MayEmpty, reclaimed, stepped, told};
 use crate::entries::clean_entry;
 use crate::going::{a_part_goes_on, a_step_is_a_part};
 use crate::kept::clean_kept;
@@ -30,21 +30,21 @@ fn clean_at<D: Disk, O: Origin>(
     store: &mut Store<D, O>,
     locks: &KeyLocks,
     low: Xid,
-    may_unlink: bool,
+    may: MayEmpty,
     at: Position,
 ) -> Result<Done, StoreFault>
-    requires room { HasRoomFor may_unlink store.old }
+    requires room { HasRoomFor may.unlink store.old }
     requires within { IsCountedPosition store.old.now.counted at }
-    ensures tries { Tries may_unlink O.first D.Disk store.old store.new result }
+    ensures tries { Tries may.unlink O.first D.Disk store.old store.new result }
     ensures cleans { (spared : ℕ) → WhereSound O.first D.Disk (IsDatabaseState store.old.now → IsPosition at (site_of store.old.now)
-        → IfOk result (DidAt (heeding low locks.now spared may_unlink) at
-        (may_unlink ≡ true → HasNothingAt (IsFreeRow locks.now store.old.now) low at store.old.now) store.old.now store.new.now)) }
+        → IfOk result (DidAt (heeding low locks.now spared may) at
+        (MayAll may → HasNothingAt (IsFreeRow locks.now store.old.now) low at store.old.now) store.old.now store.new.now)) }
     ensures refused { WhereSound O.first D.Disk (IsDatabaseState store.old.now → IsPosition at (site_of store.old.now) → IfErr result (λ f. f ≡ Fault)) }
 {
     a_step_is_a_part::<D>();
     a_part_goes_on::<D>();
     match at {
-        Position::Entry { entry } => clean_entry(store, low, entry, may_unlink),
+        Position::Entry { entry } => clean_entry(store, low, entry, may),
         Position::Slot { entry, place, .. } => clean_row(store, locks, low, entry, place),
         Position::Kept { entry, place } => clean_kept(store, locks, entry, place),
         Position::Aborted { nth } => stepped(forget_at(store, nth)),
@@ -57,21 +57,21 @@ fn clean_first<D: Disk, O: Origin>(
     locks: &KeyLocks,
     low: Xid,
     spared: usize,
-    may_unlink: bool,
+    may: MayEmpty,
     at: Position,
 ) -> Result<Done, StoreFault>
-    requires room { HasRoomFor may_unlink store.old }
+    requires room { HasRoomFor may.unlink store.old }
     requires within { IsCountedPosition store.old.now.counted at }
-    ensures tries { Tries may_unlink O.first D.Disk store.old store.new result }
+    ensures tries { Tries may.unlink O.first D.Disk store.old store.new result }
     ensures cleans { WhereSound O.first D.Disk (IsDatabaseState store.old.now → IsPosition at (site_of store.old.now)
-        → IfOk result (DidAt (heeding low locks.now spared may_unlink) at (IsPassed (heeding low locks.now spared may_unlink) at store.old.now) store.old.now store.new.now)) }
+        → IfOk result (DidAt (heeding low locks.now spared may) at (IsPassed (heeding low locks.now spared may) at store.old.now) store.old.now store.new.now)) }
     ensures refused { WhereSound O.first D.Disk (IsDatabaseState store.old.now → IsPosition at (site_of store.old.now) → IfErr result (λ f. f ≡ Fault)) }
 {
     a_step_is_a_part::<D>();
     a_part_goes_on::<D>();
     match reclaimed(reclaim(store, spared)) {
         Err(fault) => Err(fault),
-        Ok(None) => clean_at(store, locks, low, may_unlink, at),
+        Ok(None) => clean_at(store, locks, low, may, at),
         Ok(Some(logged)) => Ok(Some(logged)),
     }
 }
@@ -79,19 +79,20 @@ fn clean_first<D: Disk, O: Origin>(
 /// A turn of the cleaner at a position of a pass: one record, which isn't hardened yet, or the position behind it.
 ///
 /// A page that left its chain is given back before anything else is done, but for those of the first `spared` items of the secondary log, which undo
-/// gives back. Then, at the position: the table of an entry dies whose drop everybody sees, and one that is dead loses a page, where a page may leave its chain, or its
-/// entry is freed; a slot loses its head, is trimmed or its chain is cut; a version entry is freed; an aborted transaction is forgotten. Nothing is done
+/// gives back. Then, at the position: the table of an entry dies whose drop everybody sees, and one that is dead loses a page, or its entry
+/// is freed, where they may; a slot loses its head, is trimmed or its chain is cut; a version entry is freed; an aborted transaction is forgotten. Nothing is done
 /// to a row that is locked, in an entry of its table's name. Everybody sees what is committed below `low`. It takes no memory.
 pub fn turn<D: Disk, O: Origin>(
     store: &mut Store<D, O>,
     locks: &KeyLocks,
     low: Xid,
     spared: usize,
-    may_unlink: bool,
+    may: MayEmpty,
     at: Position,
 ) -> Result<CleanTurn, StoreFault>
+    // There is room for a record, and for an item of the secondary log where a page may leave its chain.
     requires room { HasRoomForOne 0 0 store.old }
-    requires item { may_unlink ≡ true → 1 ≤ store.old.meta.items_room }
+    requires item { may.unlink ≡ true → 1 ≤ store.old.meta.items_room }
     requires within { IsCountedPosition store.old.now.counted at }
     // It logs one record, or reads pages.
     ensures turns { Turns O.first D.Disk store.old store.new result }
@@ -100,16 +101,16 @@ pub fn turn<D: Disk, O: Origin>(
     ensures left { IfOk result (λ t. LeavesRoomBy t store.old.meta store.new.meta) }
     ensures counted { OnOk result (store.new.now.counted ≡ store.old.now.counted) }
     // A page leaves its chain only where it may; and a pass moves to what is there.
-    ensures within { IfOk result (IsWithin may_unlink store.new.now.counted) }
+    ensures within { IfOk result (IsWithin may.unlink store.new.now.counted) }
     // That is an action of the cleaner's, which owes nothing more; or there is none at the position, and this is the one behind it.
     ensures cleans { WhereSound O.first D.Disk (IsDatabaseState store.old.now → IsPosition at (site_of store.old.now)
-        → IfOk result (TurnsAt (heeding low locks.now spared may_unlink) at store.old.now store.new.now)) }
+        → IfOk result (TurnsAt (heeding low locks.now spared may) at store.old.now store.new.now)) }
     // It is refused for no other cause than that the disk failed.
     ensures refused { WhereSound O.first D.Disk (IsDatabaseState store.old.now → IsPosition at (site_of store.old.now) → IfErr result (λ f. f ≡ Fault)) }
 {
     a_part_goes_on::<D>();
     a_turn_goes_on::<D, Done, CleanTurn>();
-    match clean_first(store, locks, low, spared, may_unlink, at) {
+    match clean_first(store, locks, low, spared, may, at) {
         Err(fault) => Err(fault),
         Ok(Some(logged)) => Ok(told(logged)),
         Ok(None) => match advance(store, at) {

@@ -1,5 +1,5 @@
 -- A page that is allocated, and that no item of the secondary log has, stands in the chain that its header names.
-use Rattle.std.proofs.Common.{◌≡◌, ⊎_elim, inl, ℕ, zero, suc, ◌+◌, ◌<◌, ◌≤◌, true, false, List, [], ◌∷◌, cond, slice_index, refl, sym, ◌∙◌, ap, subst, arith}
+use Rattle.std.proofs.Common.{◌≡◌, ⊎_elim, inl, ℕ, suc, ◌+◌, ◌<◌, ◌≤◌, true, false, List, [], ◌∷◌, cond, slice_index, sym, ◌∙◌, ap, subst, arith}
 use Rattle.std.proofs.lemmas.Bool.{cases_lt, false≢true, eqb-true, eq-eqb}
 use Rattle.std.specs.List.{flat_map, list_any}
 use Rattle.std.specs.Prelude.{◌==◌, ◌||◌}
@@ -8,7 +8,6 @@ use Rattle.ctr_rec.specs.declared.record.SlogItem.TheVariants.{AllocOf, FreeOf, 
 use Rattle.ctr_area.proofs.ctr_versions.Keys.{known}
 use Rattle.ctr_page.specs.declared.checks.Chain.{Chain}
 use Rattle.ctr_page.specs.declared.checks.Chain.TheVariants.{Rows, Versions}
-use Rattle.ctr_page.specs.declared.header.Header.{Header}
 use Rattle.ctr_page.specs.Damage.{chain_entry}
 use Rattle.ctr_area.specs.Areas.{Area}
 use Rattle.ctr_area.specs.Chains.{pages_bound, pages_from, table_pages}

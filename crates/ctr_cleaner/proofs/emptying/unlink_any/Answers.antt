@@ -11,7 +11,7 @@ use Rattle.ctr_cursor.specs.declared.position.Position.TheVariants.{Entry}
 use Rattle.ctr_cleaner.specs.Turning.{heeding}
 use Rattle.ctr_cleaner.specs.Parts.{DidAt, HasNoRowsToGo, HasNoPageToGo, done_unlinked}
 use Rattle.ctr_cleaner.proofs.Joined.{part_told}
-use Rattle.ctr_cleaner.proofs.Found.{unlinked_err, done_so, ok_told, unlinks_versions}
+use Rattle.ctr_cleaner.proofs.Found.{unlinked_err, done_so, ok_told, everything, unlinks_versions}
 use Rattle.ctr_cleaner.proofs.emptying.unlink_any.Goals as goal
 
 pub returns-in-Ok-None-clause-tries : goal.returns-in-Ok-None-clause-tries
@@ -45,7 +45,7 @@ returns-in-Ok-None-clause-refused g c = λ told sound database dead.
     let mid = c.unlink_rows.new.store.now in
     let e = c.args.entry in
     let r = c.unlink_versions_at.result in
-    let h = heeding 0 [] 0 true in
+    let h = heeding 0 [] 0 everything in
     let one = ok_told (DidAt h (Entry e) (HasNoRowsToGo e s) s mid) c.unlink_rows.result c.unlink_rows.result None refl (c.in-Ok-None.is ∙ ap Ok c.in-Ok-None.field-0-is) (c.unlink_rows.ensures.cleans h told sound database dead) in
     subst (λ a. IfErr a (λ (f : StoreFault). f ≡ Fault)) (sym c.unlinked.ensures) (unlinked_err (λ (f : StoreFault). f ≡ Fault) r
     (subst (λ (u : State). IsDatabaseState u → IfErr r (λ (f : StoreFault). f ≡ Fault)) one.0 (c.unlink_versions_at.ensures.refused told sound) database))

@@ -1,4 +1,4 @@
-use Rattle.std.proofs.Common.{◌≡◌, ◌+◌, ℕ, true, [], None, Some, Ok, Err, refl, ◌∙◌, ap, subst, arith}
+use Rattle.std.proofs.Common.{◌≡◌, ◌+◌, ℕ, true, [], None, Some, Ok, Err, refl, ◌∙◌, ap, subst}
 use Rattle.std.specs.Prelude.{IfOk, IfErr}
 use Rattle.ctr_disk.specs.declared.fault.StoreFault.{StoreFault}
 use Rattle.ctr_disk.specs.declared.fault.StoreFault.TheVariants.{Fault}
@@ -11,7 +11,7 @@ use Rattle.ctr_cursor.specs.declared.position.Position.TheVariants.{Entry}
 use Rattle.ctr_cleaner.specs.Turning.{heeding}
 use Rattle.ctr_cleaner.specs.Parts.{DidAt, done_unlinked}
 use Rattle.ctr_cleaner.proofs.Joined.{part_told}
-use Rattle.ctr_cleaner.proofs.Found.{unlinked_err, err_told, ok_told, unlinks_rows, none_more, eight, none_all}
+use Rattle.ctr_cleaner.proofs.Found.{unlinked_err, err_told, ok_told, everything, unlinks_rows, none_more, eight, none_all}
 use Rattle.ctr_cleaner.proofs.emptying.unlink_rows.Goals as goal
 
 pub returns-in-Err-clause-tries : goal.returns-in-Err-clause-tries
@@ -73,8 +73,8 @@ loop-bucket-preserved g c =
           let e = c.args.entry in
           let b = c.loop-bucket.bucket in
           let same = ((c.a_part_goes_on.ensures.read true first old cur c.loop-bucket.invariant.tried).logs told sound).now in
-          let did = ok_told (DidAt (heeding 0 [] 0 true) (Entry e) ((p : ℕ) → OwedByUnlink s.tables (area_in s) p e b → ⊥) s new.now) (done_unlinked r) c.unlinked.result None c.unlinked.ensures is
-          (unlinks_rows (heeding 0 [] 0 true) e b s new.now r dead (subst (λ (u : State). IsDatabaseState u → ((area_in u).title e).state ≡ 2 → IfOk r (UnlinksRowsAt e b u new.now)) same (c.unlink_rows_at.ensures.cleans told sound) database dead)) in
+          let did = ok_told (DidAt (heeding 0 [] 0 everything) (Entry e) ((p : ℕ) → OwedByUnlink s.tables (area_in s) p e b → ⊥) s new.now) (done_unlinked r) c.unlinked.result None c.unlinked.ensures is
+          (unlinks_rows (heeding 0 [] 0 everything) e b s new.now r dead (subst (λ (u : State). IsDatabaseState u → ((area_in u).title e).state ≡ 2 → IfOk r (UnlinksRowsAt e b u new.now)) same (c.unlink_rows_at.ensures.cleans told sound) database dead)) in
           none_more e b (b + 1) s refl did.1 (c.loop-bucket.invariant.none told sound database dead);
     }
 

@@ -13,7 +13,7 @@ use Rattle.ctr_cleaner.specs.Finding.{HasNothingInSlot}
 use Rattle.ctr_cleaner.specs.Turning.{heeding}
 use Rattle.ctr_cleaner.specs.Parts.{DidAt, IsOpenSlot, done_step}
 use Rattle.ctr_cleaner.proofs.Joined.{part_told}
-use Rattle.ctr_cleaner.proofs.Found.{step_err, done_so, ok_told, cleans_slot, cuts_slot, nothing_live}
+use Rattle.ctr_cleaner.proofs.Found.{everything, step_err, done_so, ok_told, cleans_slot, cuts_slot, nothing_live}
 use Rattle.ctr_cleaner.proofs.rows.clean_live.Goals as goal
 
 pub returns-in-Err-clause-tries : goal.returns-in-Err-clause-tries
@@ -66,10 +66,10 @@ returns-in-Ok-None-clause-refused g c = λ told sound database slot live.
     let locks = c.args.locks.now in
     let e = c.args.entry in
     let at = c.args.place in
-    let h = heeding low locks 0 true in
+    let h = heeding low locks 0 everything in
     let x = Slot e 0 at in
     let one = ok_told (DidAt h x (HasNoRevert locks e at s × HasNoTrim low locks e at s) s mid) (done_step c.clean_slot.result) c.stepped.result None c.stepped.ensures (c.in-Ok-None.is ∙ ap Ok c.in-Ok-None.field-0-is)
-    (cleans_slot low locks 0 true e 0 at s mid slot.unlocked c.clean_slot.result (c.clean_slot.ensures.cleans told sound database slot.here live)) in
+    (cleans_slot low locks 0 everything e 0 at s mid slot.unlocked c.clean_slot.result (c.clean_slot.ensures.cleans told sound database slot.here live)) in
     subst (λ r. IfErr r (λ (f : StoreFault). f ≡ Fault)) (sym c.stepped-in-Ok-None.ensures)
     (step_err (λ (f : StoreFault). f ≡ Fault) c.cut_at.result
     (subst (λ (u : State). IsDatabaseState u → IsOpenSlot locks e at u → is_live ((area_in u).title e) ≡ true → IfErr c.cut_at.result (λ (f : StoreFault). f ≡ Fault)) one.0

@@ -1,4 +1,4 @@
-use Rattle.std.proofs.Common.{◌≡◌, true, None, Some, Ok, Err, ◌∙◌, ap, subst}
+use Rattle.std.proofs.Common.{◌≡◌, None, Some, Ok, Err, ◌∙◌, ap, subst}
 use Rattle.std.specs.Prelude.{IfOk, IfErr}
 use Rattle.ctr_disk.specs.declared.fault.StoreFault.{StoreFault}
 use Rattle.ctr_disk.specs.declared.fault.StoreFault.TheVariants.{Fault}
@@ -8,7 +8,7 @@ use Rattle.ctr_actions.specs.Sites.{site_of}
 use Rattle.ctr_clean.specs.Lists.{HasNoFree}
 use Rattle.ctr_cursor.specs.Standing.{IsPosition}
 use Rattle.ctr_cleaner.specs.Finding.{IsFreeRow, HasNothingAt}
-use Rattle.ctr_cleaner.specs.Turning.{heeding}
+use Rattle.ctr_cleaner.specs.Turning.{heeding, MayAll}
 use Rattle.ctr_cleaner.specs.Parts.{DidAt, IsPassed, done_reclaim}
 use Rattle.ctr_cleaner.proofs.Joined.{part_told}
 use Rattle.ctr_cleaner.proofs.Found.{reclaim_err, err_told, done_so, ok_told, reclaims}
@@ -21,7 +21,7 @@ returns-in-Err-clause-tries g c =
     let mid = c.reclaim.new.store in
     let r = c.reclaim.result in
     let is = c.reclaim.ensures in
-    c.a_part_goes_on.ensures.may c.args.may_unlink first old mid (Err c.in-Err.fault)
+    c.a_part_goes_on.ensures.may c.args.may.unlink first old mid (Err c.in-Err.fault)
     (part_told first g.D.Disk _ old mid (done_reclaim r) c.reclaimed.result (Err c.in-Err.fault) c.reclaimed.ensures c.in-Err.is (c.a_step_is_a_part.ensures.reclaimed first old mid r is.turns is.numbers is.left is.counted is.takes))
 
 pub returns-in-Err-clause-refused : goal.returns-in-Err-clause-refused
@@ -35,8 +35,8 @@ returns-in-Ok-None-clause-tries g c =
     let mid = c.reclaim.new.store in
     let r = c.reclaim.result in
     let is = c.reclaim.ensures in
-    c.a_part_goes_on.ensures.behind c.args.may_unlink first old mid c.clean_at.new.store c.clean_at.result
-    (c.a_part_goes_on.ensures.may c.args.may_unlink first old mid (Ok None)
+    c.a_part_goes_on.ensures.behind c.args.may.unlink first old mid c.clean_at.new.store c.clean_at.result
+    (c.a_part_goes_on.ensures.may c.args.may.unlink first old mid (Ok None)
     (part_told first g.D.Disk _ old mid (done_reclaim r) c.reclaimed.result (Ok None) c.reclaimed.ensures (c.in-Ok-None.is ∙ ap Ok c.in-Ok-None.field-0-is) (c.a_step_is_a_part.ensures.reclaimed first old mid r is.turns is.numbers is.left is.counted is.takes)))
     c.clean_at.ensures.tries
 
@@ -48,13 +48,13 @@ returns-in-Ok-None-clause-cleans g c = λ told sound database its.
     let low = c.args.low in
     let locks = c.args.locks.now in
     let spared = c.args.spared in
-    let lets = c.args.may_unlink in
+    let lets = c.args.may in
     let x = c.args.at in
     let r = c.reclaim.result in
     let h = heeding low locks spared lets in
     let one = ok_told (DidAt h x (HasNoFree spared s.tables) s mid) (done_reclaim r) c.reclaimed.result None c.reclaimed.ensures (c.in-Ok-None.is ∙ ap Ok c.in-Ok-None.field-0-is) (reclaims low locks spared lets x s mid r (c.reclaim.ensures.cleans low locks told sound database)) in
-    done_so h x (lets ≡ true → HasNothingAt (IsFreeRow locks s) low x s) (IsPassed h x s) s new (λ none. (one.1, none)) c.clean_at.result
-    (subst (λ (u : State). IsDatabaseState u → IsPosition x (site_of u) → IfOk c.clean_at.result (DidAt h x (lets ≡ true → HasNothingAt (IsFreeRow locks u) low x u) u new)) one.0 (c.clean_at.ensures.cleans spared told sound) database its)
+    done_so h x (MayAll lets → HasNothingAt (IsFreeRow locks s) low x s) (IsPassed h x s) s new (λ none. (one.1, none)) c.clean_at.result
+    (subst (λ (u : State). IsDatabaseState u → IsPosition x (site_of u) → IfOk c.clean_at.result (DidAt h x (MayAll lets → HasNothingAt (IsFreeRow locks u) low x u) u new)) one.0 (c.clean_at.ensures.cleans spared told sound) database its)
 
 pub returns-in-Ok-None-clause-refused : goal.returns-in-Ok-None-clause-refused
 returns-in-Ok-None-clause-refused g c = λ told sound database its.
@@ -63,7 +63,7 @@ returns-in-Ok-None-clause-refused g c = λ told sound database its.
     let low = c.args.low in
     let locks = c.args.locks.now in
     let spared = c.args.spared in
-    let lets = c.args.may_unlink in
+    let lets = c.args.may in
     let x = c.args.at in
     let r = c.reclaim.result in
     let one = ok_told (DidAt (heeding low locks spared lets) x (HasNoFree spared s.tables) s mid) (done_reclaim r) c.reclaimed.result None c.reclaimed.ensures (c.in-Ok-None.is ∙ ap Ok c.in-Ok-None.field-0-is) (reclaims low locks spared lets x s mid r (c.reclaim.ensures.cleans low locks told sound database)) in
@@ -76,7 +76,7 @@ returns-in-Ok-Some-clause-tries g c =
     let mid = c.reclaim.new.store in
     let r = c.reclaim.result in
     let is = c.reclaim.ensures in
-    c.a_part_goes_on.ensures.may c.args.may_unlink first old mid (Ok (Some c.in-Ok-Some.logged))
+    c.a_part_goes_on.ensures.may c.args.may.unlink first old mid (Ok (Some c.in-Ok-Some.logged))
     (part_told first g.D.Disk _ old mid (done_reclaim r) c.reclaimed.result (Ok (Some c.in-Ok-Some.logged)) c.reclaimed.ensures (c.in-Ok-Some.is ∙ ap Ok c.in-Ok-Some.field-0-is) (c.a_step_is_a_part.ensures.reclaimed first old mid r is.turns is.numbers is.left is.counted is.takes))
 
 pub returns-in-Ok-Some-clause-cleans : goal.returns-in-Ok-Some-clause-cleans
@@ -86,7 +86,7 @@ returns-in-Ok-Some-clause-cleans g c = λ told sound database its.
     let low = c.args.low in
     let locks = c.args.locks.now in
     let spared = c.args.spared in
-    let lets = c.args.may_unlink in
+    let lets = c.args.may in
     let x = c.args.at in
     let r = c.reclaim.result in
     ok_told (DidAt (heeding low locks spared lets) x (HasNoFree spared s.tables) s mid) (done_reclaim r) c.reclaimed.result (Some c.in-Ok-Some.logged) c.reclaimed.ensures (c.in-Ok-Some.is ∙ ap Ok c.in-Ok-Some.field-0-is) (reclaims low locks spared lets x s mid r (c.reclaim.ensures.cleans low locks told sound database))

@@ -1,7 +1,7 @@
-use Rattle.std.proofs.Common.{◌≡◌, false, Bool, Result, Ok, Err, sym, ap, subst}
+use Rattle.std.proofs.Common.{◌≡◌, false, Bool, Result, Ok, Err, subst}
 use Rattle.std.specs.Prelude.{IfOk}
 use Rattle.ctr_disk.specs.declared.fault.StoreFault.{StoreFault}
-use Rattle.ctr_actions.specs.Sites.{Site, site_of}
+use Rattle.ctr_actions.specs.Sites.{site_of}
 use Rattle.ctr_cursor.specs.declared.position.Position.{Position}
 use Rattle.ctr_cursor.specs.Standing.{IsPosition}
 use Rattle.ctr_cursor.proofs.there.is_there.Goals as goal
