@@ -5,10 +5,10 @@ use Rattle.std.proofs.lemmas.List.{get_or_default}
 use Rattle.ctr_pool.specs.Kept.{age_of, AllSince, AreByAge}
 use Rattle.ctr_pool.proofs.FrameLaws.{yes, no, is, isnt, same_or}
 
-first : (p : ℕ) (e : ℕ × ℕ) (es : List (ℕ × ℕ)) → p ≡ e.0 → age_of p (e ∷ es) ≡ Some e.1
+pub first : (p : ℕ) (e : ℕ × ℕ) (es : List (ℕ × ℕ)) → p ≡ e.0 → age_of p (e ∷ es) ≡ Some e.1
 first p e es same = yes (eqb p e.0) (Some e.1) (age_of p es) (is p e.0 same)
 
-rest : (p : ℕ) (e : ℕ × ℕ) (es : List (ℕ × ℕ)) → p ≢ e.0 → age_of p (e ∷ es) ≡ age_of p es
+pub rest : (p : ℕ) (e : ℕ × ℕ) (es : List (ℕ × ℕ)) → p ≢ e.0 → age_of p (e ∷ es) ≡ age_of p es
 rest p e es ne = no (eqb p e.0) (Some e.1) (age_of p es) (isnt p e.0 ne)
 
 since_at : (s : ℕ) (es : List (ℕ × ℕ)) (k : ℕ) (d : ℕ × ℕ) → AllSince s es → k < length es → s ≤ (get_or es k d).1
@@ -90,3 +90,10 @@ above_at es m s x by inside lt k d le less =
     ⊎_elim (λ same. subst (λ (n : ℕ). s ≤ (get_or es n d).1) (sym same) (subst (λ (e : ℕ × ℕ). s ≤ e.1) (get_or_default es m x d inside) (omega (arith, lt))))
     (λ apart. let o = by_age_at es m k x d by (omega (arith, le, apart)) less in omega (arith, o, lt))
     (same_or k m)
+
+-- of a page that isn't there nothing changes
+pub stays_out : (p q : ℕ) (es : List (ℕ × ℕ)) → age_of p es ≡ None → age_of q es ≡ cond (eqb p q) None (age_of q es)
+stays_out p q es none =
+    ⊎_elim (λ same. subst (λ (k : ℕ). age_of k es ≡ None) same none ∙ sym (yes (eqb p q) None (age_of q es) (is p q same)))
+    (λ apart. sym (no (eqb p q) None (age_of q es) (isnt p q apart)))
+    (same_or p q)

@@ -1,3 +1,5 @@
 pub mod FrameLaws
 pub mod AgeLaws
+pub mod PlaceLaws
+pub mod PlacedLaws
 pub mod MemoryLaws

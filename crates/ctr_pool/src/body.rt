@@ -7,8 +7,7 @@ ghost use Rattle.ctr_disk.specs.declared.fault.StoreFault.TheVariants.{Fault};
 
 use crate::{Backing, Lsn};
 use ctr_disk::StoreFault;
-use ctr_rec::{OutOfMemory, Overlay, PageNo};
-use std::alloc::Global;
+use ctr_rec::{Overlay, PageNo};
 use std::marker::Model;
 
 /// The length of a page in bytes.
@@ -17,7 +16,7 @@ const PAGE: usize = 4096;
 /// The 4,096 bytes of a page.
 #[derive(Debug, Drop)]
 pub struct Body {
-    bytes: Vec<u8>,
+    bytes: [u8; PAGE],
 }
 
 impl Model for Body {
@@ -25,19 +24,17 @@ impl Model for Body {
 
     ghost Value = { List ℕ };
 
-    ghost view = { λ a. a.bytes.items };
+    ghost view = { λ a. a.bytes };
 
-    ghost invariant = { λ a. length a.bytes.items ≡ 4096 };
+    ghost invariant = { λ a. length a.bytes ≡ 4096 };
 }
 
 impl Body {
     /// Zeros.
-    pub fn new(alloc: Global) -> Result<Body, OutOfMemory>
-        ensures { IfOk result (λ b. b ≡ replicate 4096 0) }
+    pub fn new() -> Body
+        ensures { result ≡ replicate 4096 0 }
     {
-        let mut bytes = Vec::new(alloc);
-        bytes.resize(PAGE, 0)?;
-        Ok(Body { bytes })
+        Body { bytes: [0; PAGE] }
     }
 
     /// The bytes.

@@ -1,5 +1,5 @@
-// Frames in order of their pages.
-ghost use Rattle.std.specs.Prelude.{◌≡◌, ◌==◌, ◌≤◌, ◌<◌, ◌+◌, ◌⊎◌, ℕ, [], Some, None, true, Option, length, is_some, if◌then◌else◌, IsTrue, Err, IfOk, IfSome, IfNone, OnOk, OnErr, IfErr};
+// The frames, each at a place of its own.
+ghost use Rattle.std.specs.Prelude.{◌≡◌, ◌==◌, ◌≤◌, ◌<◌, ◌+◌, ◌⊎◌, ℕ, [], Some, None, true, Option, length, is_some, slice_index_or, if◌then◌else◌, IsTrue, Err, IfOk, IfSome, IfNone, OnOk, OnErr, IfErr};
 ghost use Rattle.std.specs.Option.{option_map};
 ghost use Rattle.ctr_pool.specs.declared.frame.Frame.{Frame as Framed};
 ghost use Rattle.ctr_pool.specs.Frames.{frame_of, has_page, since_in, page_of, since_then, after_change, after_save, dirty_count};
@@ -7,31 +7,33 @@ ghost use Rattle.ctr_pool.specs.Below.{PutsPage};
 ghost use Rattle.ctr_disk.specs.types_Faults.{HasFault};
 ghost use Rattle.ctr_disk.specs.declared.fault.StoreFault.TheVariants.{Fault};
 
-use crate::finding::find;
+use crate::places::Places;
 use crate::{Backing, Body, Frame, Lsn};
 use ctr_disk::StoreFault;
 use ctr_rec::{OutOfMemory, Overlay, PageNo};
 use std::alloc::Global;
 use std::marker::Model;
 
-/// Frames in order of their pages. One is found in steps that grow with the logarithm of their number, and the one that
-/// was found last in one step.
+/// Frames by their pages. Their memory is taken at once, and a place isn't touched before a frame stands there. One is found in steps
+/// that grow with the logarithm of their number, and the one that was sought last in one step.
 #[derive(Drop)]
 pub struct Frames {
+    // one behind another, in no order
     items: Vec<Frame>,
-    // where a page was found last, or put
+    places: Places,
+    // the place of the page that was sought last, or added
     last: usize,
 }
 
 impl Model for Frames {
-    ghost use Rattle.std.specs.Prelude.{◌-◌, vec_len, vec_capacity};
-    ghost use Rattle.ctr_pool.specs.Kept.{FrameList, AreOrdered};
+    ghost use Rattle.std.specs.Prelude.{◌-◌, ◌+◌, ◌≡◌, length, vec_len, vec_capacity};
+    ghost use Rattle.ctr_pool.specs.Kept.{FrameList, ArePlaced};
 
     ghost Value = { FrameList };
 
     ghost view = { λ a. record { frames = a.items.items; spare = vec_capacity a.items - vec_len a.items } };
 
-    ghost invariant = { λ a. AreOrdered a.items.items };
+    ghost invariant = { λ a. ArePlaced a.places.entries a.items.items × (length a.places.entries ≡ vec_len a.items) × (length a.places.entries + a.places.spare ≡ vec_capacity a.items) };
 }
 
 fn since_then(since: Option<Lsn>, lsn: Lsn) -> Option<Lsn>
@@ -47,17 +49,40 @@ impl Frames {
     /// No frame, with room for so many.
     pub fn new(alloc: Global, most: usize) -> Result<Frames, OutOfMemory>
         ensures none { IfOk result (λ a. a.frames ≡ []) }
-        ensures room { IfOk result (λ a. most ≤ a.spare) }
+        ensures room { IfOk result (λ a. a.spare ≡ most) }
     {
         let items = Vec::with_capacity(alloc, most)?;
-        Ok(Frames { items, last: 0 })
+        let places = Places::new(alloc, most)?;
+        Ok(Frames {
+            items,
+            places,
+            last: 0,
+        })
     }
 
-    /// How many frames.
-    pub fn len(&self) -> usize
-        ensures { result ≡ length self.now.frames }
+    /// How many frames there may be.
+    pub fn most(&self) -> usize
+        ensures { result ≡ length self.now.frames + self.now.spare }
     {
-        self.items.len()
+        self.items.capacity()
+    }
+
+    /// Whether there are as many as there may be.
+    pub fn is_full(&self) -> bool
+        ensures { result ≡ (self.now.spare == 0) }
+    {
+        self.items.len() == self.items.capacity()
+    }
+
+    // Where a page's frame stands. The place where one was sought last is looked at first.
+    fn place(&self, page: PageNo) -> Option<usize>
+        ensures there { IfSome result (λ at. (at < length self.now.frames) × ((d : Framed) → (slice_index_or self.now.frames at d).page ≡ page)) }
+        ensures none { IfNone result (frame_of page self.now.frames ≡ None) }
+    {
+        if self.last < self.items.len() && self.items[self.last].page == page {
+            return Some(self.last);
+        }
+        self.places.of(page)
     }
 
     /// Whether a frame has the page. From now on that page is found in one step.
@@ -65,12 +90,12 @@ impl Frames {
         ensures has { result ≡ has_page page self.old.frames }
         ensures same { self.new ≡ self.old }
     {
-        match find(&self.items, self.last, page) {
-            Ok(at) => {
+        match self.place(page) {
+            Some(at) => {
                 self.last = at;
                 true
             }
-            Err(_) => false,
+            None => false,
         }
     }
 
@@ -78,9 +103,9 @@ impl Frames {
     pub fn since(&self, page: PageNo) -> Option<Lsn>
         ensures { result ≡ since_in page self.now.frames }
     {
-        match find(&self.items, self.last, page) {
-            Ok(at) => self.items[at].since,
-            Err(_) => None,
+        match self.place(page) {
+            Some(at) => self.items[at].since,
+            None => None,
         }
     }
 
@@ -89,9 +114,9 @@ impl Frames {
         ensures shown { (f : Framed) → frame_of page self.now.frames ≡ Some f → result.now ≡ f.body }
         ensures whole { has_page page self.now.frames ≡ true → length result.now ≡ 4096 }
     {
-        match find(&self.items, self.last, page) {
-            Ok(at) => self.items[at].body.as_slice(),
-            Err(_) => &[],
+        match self.place(page) {
+            Some(at) => self.items[at].body.as_slice(),
+            None => &[],
         }
     }
 
@@ -99,9 +124,9 @@ impl Frames {
     pub fn lsn(&self, page: PageNo) -> Lsn
         ensures { (f : Framed) → frame_of page self.now.frames ≡ Some f → result ≡ f.lsn }
     {
-        match find(&self.items, self.last, page) {
-            Ok(at) => self.items[at].lsn,
-            Err(_) => 0,
+        match self.place(page) {
+            Some(at) => self.items[at].lsn,
+            None => 0,
         }
     }
 
@@ -114,33 +139,34 @@ impl Frames {
         ensures len { length self.new.frames ≡ length self.old.frames + 1 }
         ensures room { self.new.spare + 1 ≡ self.old.spare }
     {
-        let Err(at) = find(&self.items, self.last, page) else {
-            unreachable!();
-        };
-        let frame = Frame {
+        let at = self.items.len();
+        self.items.push_reserved(Frame {
             page,
             lsn,
             since: None,
             body,
-        };
-        self.items.insert(at, frame).unwrap();
+        });
+        self.places.add(page, at);
         self.last = at;
     }
 
-    /// Takes a page's frame out, of which nothing is to be saved, and gives its bytes back.
-    pub fn remove(&mut self, page: PageNo) -> Option<Body>
+    /// Takes a page's frame out, of which nothing is to be saved.
+    pub fn remove(&mut self, page: PageNo)
         requires { since_in page self.old.frames ≡ None }
-        ensures some { is_some result ≡ has_page page self.old.frames }
         ensures frames { (q : ℕ) → frame_of q self.new.frames ≡ (if page == q then None else frame_of q self.old.frames) }
         ensures count { dirty_count self.new.frames ≡ dirty_count self.old.frames }
-        ensures len { length self.new.frames + (if is_some result then 1 else 0) ≡ length self.old.frames }
+        ensures len { length self.new.frames + (if has_page page self.old.frames then 1 else 0) ≡ length self.old.frames }
         ensures room { length self.new.frames + self.new.spare ≡ length self.old.frames + self.old.spare }
     {
-        let Ok(at) = find(&self.items, self.last, page) else {
-            return None;
+        let Some(at) = self.place(page) else {
+            return;
         };
-        let Frame { body, .. } = self.items.remove(at);
-        Some(body)
+        self.places.remove(page);
+        let _ = self.items.swap_remove(at);
+        if at == self.items.len() {
+            return;
+        }
+        self.places.change(self.items[at].page, at);
     }
 
     /// Changes a page that a frame has.
@@ -151,7 +177,7 @@ impl Frames {
         ensures len { length self.new.frames ≡ length self.old.frames }
         ensures room { self.new.spare ≡ self.old.spare }
     {
-        let Ok(at) = find(&self.items, self.last, page) else {
+        let Some(at) = self.place(page) else {
             return;
         };
         let frame = &mut self.items[at];
@@ -167,7 +193,7 @@ impl Frames {
         ensures len { length self.new.frames ≡ length self.old.frames }
         ensures room { self.new.spare ≡ self.old.spare }
     {
-        let Ok(at) = find(&self.items, self.last, page) else {
+        let Some(at) = self.place(page) else {
             return;
         };
         self.items[at].since = None;
@@ -184,12 +210,12 @@ impl Frames {
         ensures fails { (IsTrue B.tells → IfErr result (B.fails backing.old backing.new)) × OnErr result (result ≡ Err Fault) }
         ensures faults { HasFault Fault (B.faults_of backing.old) (B.faults_of backing.new) result }
     {
-        match find(&self.items, self.last, page) {
-            Ok(at) => {
+        match self.place(page) {
+            Some(at) => {
                 let frame = &self.items[at];
                 backing.save(page, frame.lsn, frame.body.as_slice())
             }
-            Err(_) => unreachable!(),
+            None => unreachable!(),
         }
     }
 
@@ -197,9 +223,10 @@ impl Frames {
         ensures clean { IfSome result (λ p. (has_page p self.now.frames ≡ true) × (since_in p self.now.frames ≡ None)) }
         ensures none { IfNone result (from ≡ 0 → dirty_count self.now.frames ≡ length self.now.frames) }
     {
-        for at in from..self.items.len() {
+        for rank in from..self.places.len() {
+            let (page, at) = self.places.entry(rank);
             if self.items[at].since.is_none() {
-                return Some(self.items[at].page);
+                return Some(page);
             }
         }
         None
@@ -210,11 +237,7 @@ impl Frames {
         ensures clean { IfSome result (λ p. (has_page p self.now.frames ≡ true) × (since_in p self.now.frames ≡ None)) }
         ensures none { IfNone result (dirty_count self.now.frames ≡ length self.now.frames) }
     {
-        let behind = match find(&self.items, self.last, page) {
-            Ok(at) => at + 1,
-            Err(at) => at,
-        };
-        if let Some(clean) = self.clean_from(behind) {
+        if let Some(clean) = self.clean_from(self.places.behind(page)) {
             return Some(clean);
         }
         self.clean_from(0)

@@ -8,6 +8,7 @@ mod finding;
 mod frame;
 mod frames;
 mod memory;
+mod places;
 mod pool;
 
 pub use backing::Backing;

@@ -35,7 +35,7 @@ impl Memory {
     {
         let mut sheets = Vec::with_capacity(alloc, pages)?;
         for _ in 0..pages {
-            let body = Body::new(alloc)?;
+            let body = Body::new();
             sheets.push(Sheet { lsn: 0, body })?;
         }
         Ok(Memory {

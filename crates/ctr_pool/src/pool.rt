@@ -1,5 +1,5 @@
 // Pages in frames, over a backing.
-ghost use Rattle.std.specs.Prelude.{◌≡◌, ◌==◌, ◌≤◌, ◌<◌, ◌+◌, ◌-◌, ℕ, [], Some, None, true, false, length, is_some, if◌then◌else◌, vec_len, vec_capacity, IsTrue, Ok, Err, IfOk, IfErr, IfSome, IfNone, OnOk, OnErr};
+ghost use Rattle.std.specs.Prelude.{◌≡◌, ◌==◌, ◌≤◌, ◌<◌, ◌+◌, ◌-◌, ℕ, [], Some, None, true, false, length, is_some, if◌then◌else◌, IsTrue, Ok, Err, IfOk, IfErr, IfSome, IfNone, OnOk, OnErr};
 ghost use Rattle.std.specs.Option.{option_map};
 ghost use Rattle.ctr_pool.specs.declared.frame.Frame.{Frame as Framed};
 ghost use Rattle.ctr_pool.specs.Frames.{frame_of, has_page, since_in, after_change, IsOldest, AreClean, dirty_count};
@@ -20,8 +20,6 @@ use std::marker::Model;
 #[derive(Drop)]
 pub struct Pool {
     frames: Frames,
-    // the bodies of frames that have no page
-    bodies: Vec<Body>,
     ages: Ages,
     // the page that gave way last
     hand: PageNo,
@@ -39,29 +37,16 @@ impl Model for Pool {
     ghost invariant = { IsPool };
 }
 
-fn make_bodies(alloc: Global, count: usize) -> Result<Vec<Body>, OutOfMemory>
-    ensures len { IfOk result (λ v. vec_len v ≡ count) }
-    ensures room { IfOk result (λ v. count ≤ vec_capacity v) }
-{
-    let mut bodies = Vec::with_capacity(alloc, count)?;
-    for _ in 0..count {
-        bodies.push(Body::new(alloc)?)?;
-    }
-    Ok(bodies)
-}
-
 impl Pool {
     /// A pool of so many frames, 8 to 4,096, without a page.
     pub fn new(alloc: Global, frames: usize) -> Result<Pool, OutOfMemory>
         requires { (8 ≤ frames) × (frames ≤ 4096) }
         ensures { IfOk result (λ p. (p.frames ≡ []) × (p.most ≡ frames)) }
     {
-        let bodies = make_bodies(alloc, frames)?;
         let list = Frames::new(alloc, frames)?;
         let ages = Ages::new(alloc, frames)?;
         Ok(Pool {
             frames: list,
-            bodies,
             ages,
             hand: 0,
         })
@@ -72,7 +57,7 @@ impl Pool {
         ensures number { result ≡ unchanged self.now }
         ensures at_most { length self.now.frames ≤ self.now.most }
     {
-        self.frames.len() + self.bodies.len() - self.ages.len()
+        self.frames.most() - self.ages.len()
     }
 
     /// The least LSN of a first change that isn't saved.
@@ -147,10 +132,7 @@ impl Pool {
         ensures most { self.new.most ≡ self.old.most }
     {
         self.hand = page;
-        let Some(body) = self.frames.remove(page) else {
-            unreachable!();
-        };
-        self.bodies.push_reserved(body);
+        self.frames.remove(page);
     }
 
     // There is a frame without a page.
@@ -164,7 +146,7 @@ impl Pool {
         ensures fault { OnErr result (result ≡ Err Fault) }
         ensures works { WorksBelow B.Backing backing.old backing.new result }
     {
-        if !self.bodies.is_empty() {
+        if !self.frames.is_full() {
             return Ok(());
         }
         let page = self.find_clean(backing)?;
@@ -184,17 +166,10 @@ impl Pool {
         ensures most { self.new.most ≡ self.old.most }
         ensures works { WorksBelow B.Backing backing.old backing.new result }
     {
-        let mut body = self.bodies.pop().unwrap();
-        match body.load(page, backing) {
-            Ok(lsn) => {
-                self.frames.add(page, lsn, body);
-                Ok(())
-            }
-            Err(fault) => {
-                self.bodies.push_reserved(body);
-                Err(fault)
-            }
-        }
+        let mut body = Body::new();
+        let lsn = body.load(page, backing)?;
+        self.frames.add(page, lsn, body);
+        Ok(())
     }
 
     /// Brings a page into a frame, where none has it. A page gives way that has nothing to save; if there is

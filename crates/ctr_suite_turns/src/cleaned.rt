@@ -265,15 +265,32 @@ pub fn clean_beside(store: &mut Mem, beside: Beside, at: &mut Position) -> Resul
     Ok(false)
 }
 
+// What a pass does at a position, and a hardening behind a record where that is wanted.
+fn pass_hardened(
+    store: &mut Mem,
+    beside: Beside,
+    position: Position,
+    hardens: bool,
+) -> Result<bool, Trouble>
+    requires going { store.old.stopped ≡ false }
+    ensures going { OnOk result (store.new.stopped ≡ false) }
+{
+    let cleaned = pass_at(store, beside, position)?;
+    if cleaned && hardens {
+        store.harden()?;
+    }
+    Ok(cleaned)
+}
+
 // A pass, at each position as long as there is something to do.
-fn clean_all(store: &mut Mem, locks: &KeyLocks) -> Result<(), Trouble>
+fn clean_all(store: &mut Mem, locks: &KeyLocks, hardens: bool) -> Result<(), Trouble>
     requires going { store.old.stopped ≡ false }
     ensures going { OnOk result (store.new.stopped ≡ false) }
 {
     let mut at = FIRST;
     for _ in 0..MOST_STEPS {
         let low = store.meta().least_open(store.meta().next());
-        if !pass_at(store, Beside { locks, low }, at)? {
+        if !pass_hardened(store, Beside { locks, low }, at, hardens)? {
             let Some(behind) = next(store, at)? else {
                 return Ok(());
             };
@@ -284,23 +301,42 @@ fn clean_all(store: &mut Mem, locks: &KeyLocks) -> Result<(), Trouble>
 }
 
 // A pass over a store, which is hardened behind it: its first record, and the first behind it.
-fn clean_over(alloc: Global, store: &mut Mem) -> Result<(u64, u64), Trouble>
+fn clean_over(alloc: Global, store: &mut Mem, hardens: bool) -> Result<(u64, u64), Trouble>
     requires going { store.old.stopped ≡ false }
     ensures going { OnOk result (store.new.stopped ≡ false) }
 {
     let from = store.next();
-    clean_all(store, &KeyLocks::new(alloc))?;
+    clean_all(store, &KeyLocks::new(alloc), hardens)?;
     store.harden()?;
     Ok((from, store.next()))
 }
 
 // The same over a store that was opened for that: the disk that it leaves, and how it went.
-fn clean_on(alloc: Global, store: Mem) -> (SilentDisk, Result<(u64, u64), Trouble>)
+fn clean_on(alloc: Global, store: Mem, hardens: bool) -> (SilentDisk, Result<(u64, u64), Trouble>)
     requires going { store.stopped ≡ false }
 {
     let mut store = store;
-    let done = clean_over(alloc, &mut store);
+    let done = clean_over(alloc, &mut store, hardens);
     (store.into_disk(), done)
+}
+
+// The records of the log that a pass leaves.
+fn read_log(alloc: Global, disk: &mut SilentDisk, log: &mut Gathered) {
+    let _read = gather(alloc, disk, log);
+}
+
+/// A pass of the cleaner over files, where that is wanted hardened behind each record: the disk that it leaves, and how it went, with its
+/// first record, and the first behind it; none where the files aren't opened.
+pub fn clean_disk(
+    alloc: Global,
+    files: &Files,
+    hardens: bool,
+    log: &mut Gathered,
+) -> Option<(SilentDisk, Result<(u64, u64), Trouble>)> {
+    let store = opened(alloc, files)?;
+    let (mut disk, done) = clean_on(alloc, store, hardens);
+    read_log(alloc, &mut disk, log);
+    Some((disk, done))
 }
 
 /// A pass of the cleaner over files: its first record, and the first behind it.
@@ -309,11 +345,9 @@ pub fn clean_files(
     files: &mut Files,
     log: &mut Gathered,
 ) -> Result<(u64, u64), Trouble> {
-    let Some(store) = opened(alloc, files) else {
+    let Some((disk, done)) = clean_disk(alloc, files, false, log) else {
         return Err(Trouble::NotOpened);
     };
-    let (mut disk, done) = clean_on(alloc, store);
-    let _read = gather(alloc, &mut disk, log);
     set(&mut files.image, files_of(disk));
     done
 }

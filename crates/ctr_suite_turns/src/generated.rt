@@ -34,7 +34,7 @@ pub struct Maker {
     rng: Xoshiro256PlusPlus,
     sessions: u64,
     /// Whether the cleaner has turns.
-    cleans: bool,
+    pub cleans: bool,
     /// The lines so far, as a script has them, and how many.
     pub text: Page,
     pub lines: List<Line>,

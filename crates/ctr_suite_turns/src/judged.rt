@@ -28,6 +28,11 @@ pub fn nowhere(alloc: Global) -> Point {
     starting(alloc, Map::new(alloc), List::new(alloc))
 }
 
+/// The start over these tables.
+pub fn resting(alloc: Global, base: &Tables) -> Result<Point, AllocError> {
+    Ok(starting(alloc, base.copy(alloc)?, List::new(alloc)))
+}
+
 /// Whether a tape is legal from the start of a run over this database, with names that recovery holds; where it is, the point is where it
 /// leads.
 pub fn follow(
@@ -49,6 +54,17 @@ pub fn answered_by(entries: &[Entry], moment: u64) -> u64 {
     let mut count = 0u64;
     for entry in entries {
         if entry.moment <= moment && matches!(&entry.reply, Reply::Answered { .. }) {
+            count = count.saturating_add(1);
+        }
+    }
+    count
+}
+
+/// How many commits were asked for by a moment.
+pub fn asked_by(entries: &[Entry], moment: u64) -> u64 {
+    let mut count = 0u64;
+    for entry in entries {
+        if entry.moment <= moment && matches!(&entry.reply, Reply::Asked { .. }) {
             count = count.saturating_add(1);
         }
     }
@@ -95,4 +111,9 @@ pub fn commits_seen(
 /// The database that a state's commits lead to.
 pub fn tables_of(alloc: Global, state: &State) -> Result<Tables, AllocError> {
     state.rows_at(alloc, state.answered)
+}
+
+/// The database behind so many commits of a state.
+pub fn tables_at(alloc: Global, state: &State, number: u64) -> Result<Tables, AllocError> {
+    state.rows_at(alloc, number)
 }

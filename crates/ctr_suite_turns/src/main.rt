@@ -5,6 +5,7 @@
 //! with the file `stdout`.
 #![tactic(auto)]
 
+mod bare;
 mod cleaned;
 mod files;
 mod fitting;

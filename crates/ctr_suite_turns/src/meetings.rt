@@ -1,4 +1,5 @@
 // Generated scripts, played by generated orders of turns, each judged, and which replies were met.
+use crate::bare::is_bare_behind;
 use crate::files::Files;
 use crate::generated::Maker;
 use crate::judged::{Tables, follow, nowhere};
@@ -93,9 +94,11 @@ pub struct Met {
     /// How often each reply was met, and others.
     counts: [u64; 20],
     others: u64,
-    /// How many tapes aren't legal, how many stops left other rows, and the first number of one of them.
+    /// How many tapes aren't legal and how many stops left other rows; the first number of one of these, or of a database that wasn't bare.
     illegal: u64,
     wrong: u64,
+    /// How many databases weren't bare behind the cleaner.
+    laden: u64,
     first: Option<u64>,
 }
 
@@ -109,6 +112,7 @@ impl Met {
             others: 0,
             illegal: 0,
             wrong: 0,
+            laden: 0,
             first: None,
         }
     }
@@ -142,8 +146,29 @@ impl Met {
             Verdict::Well => return,
             Verdict::Illegal => self.illegal = self.illegal.saturating_add(1),
             Verdict::LeftOtherwise => self.wrong = self.wrong.saturating_add(1),
+            Verdict::NotBare => self.laden = self.laden.saturating_add(1),
         }
         self.first = Some(self.first.unwrap_or(number));
+    }
+
+    // The first number of a meeting that isn't well.
+    fn put_first(&self, page: &mut Page) {
+        if let Some(number) = self.first {
+            page.add_number("the first is ", number);
+            page.add(b"\n");
+        }
+    }
+
+    /// How many meetings with the cleaner there were, how many tapes weren't legal, how many stops left other rows, how many turns logged more
+    /// than one record, and how many databases weren't bare behind it; not how often what was met.
+    pub fn put_judged(&self, page: &mut Page) {
+        page.add_number("", self.played);
+        page.add_number(" played, ", self.illegal);
+        page.add_number(" illegal, ", self.wrong);
+        page.add_number(" left otherwise, ", self.crowded);
+        page.add_number(" turns of more than one record, ", self.laden);
+        page.add(b" not bare\n");
+        self.put_first(page);
     }
 
     /// How many meetings and entries there were, how many tapes weren't legal, how many stops left other rows, and how many turns logged more
@@ -155,10 +180,7 @@ impl Met {
         page.add_number(" illegal, ", self.wrong);
         page.add_number(" left otherwise, ", self.crowded);
         page.add(b" turns of more than one record\n");
-        if let Some(number) = self.first {
-            page.add_number("the first is ", number);
-            page.add(b"\n");
-        }
+        self.put_first(page);
         for (name, count) in NAMES.iter().zip(self.counts.iter()) {
             page.add(name.as_bytes());
             page.add_number(" ", *count);
@@ -176,9 +198,12 @@ enum Verdict {
     Illegal,
     /// A stop left other rows.
     LeftOtherwise,
+    /// Behind the cleaner something is left, or other rows.
+    NotBare,
 }
 
-// What the judge says of a run that was played: the tape is legal, and a stop after some calls leaves the rows behind some commits.
+// What the judge says of a run that was played: the tape is legal, and a stop after some calls leaves the rows behind some commits; where the
+// cleaner has turns, what is left is bare once it is through.
 fn verdict_at(
     alloc: Global,
     base: &Tables,
@@ -198,11 +223,13 @@ fn verdict_at(
         run,
         state: &point.state,
     };
-    if is_left_well(alloc, judging, count as usize, k)? {
-        Ok(Verdict::Well)
-    } else {
-        Ok(Verdict::LeftOtherwise)
+    if !is_left_well(alloc, judging, count as usize, k)? {
+        return Ok(Verdict::LeftOtherwise);
     }
+    if maker.cleans && !is_bare_behind(alloc, judging)? {
+        return Ok(Verdict::NotBare);
+    }
+    Ok(Verdict::Well)
 }
 
 fn verdict_of(
@@ -333,6 +360,7 @@ fn put_by(
         Verdict::Well => b"well\n",
         Verdict::Illegal => b"illegal\n",
         Verdict::LeftOtherwise => b"left otherwise\n",
+        Verdict::NotBare => b"not bare\n",
     });
     Ok(())
 }

@@ -1,7 +1,8 @@
 // Plays the lines of a suite.
-use crate::cleaned::clean_files;
+use crate::bare::left_in;
+use crate::cleaned::{clean_disk, clean_files};
 use crate::files::{Files, files_of, fill, made};
-use crate::judged::{Tables, follow, nowhere, tables_of};
+use crate::judged::{Tables, asked_by, follow, nowhere, resting, tables_at, tables_of};
 use crate::lines::{add_each, add_line};
 use crate::lists::set;
 use crate::logged::put_records;
@@ -11,7 +12,7 @@ use crate::page::Page;
 use crate::printed::put_turns;
 use crate::run::{Order, Run, play_files};
 use crate::steps::{Step, step_of};
-use crate::stops::{Judging, Looking, count_wrong, put_stops};
+use crate::stops::{Judging, Looking, count_wrong, files_by, put_stops};
 use crate::trouble::Trouble;
 use crate::undone::undo_files;
 use ctr_log::Gathered;
@@ -157,6 +158,126 @@ impl Player {
         Ok(())
     }
 
+    // Plays the script, each turn hardened, and goes on from what a stop behind so many turns leaves.
+    fn stop(&mut self, turn: u64, order: &[u8]) -> Result<(), Trouble> {
+        let mut run = Run::new(self.alloc);
+        let stopped = self.stop_in(turn, order, &mut run);
+        drop(run);
+        stopped
+    }
+
+    fn stop_in(&mut self, turn: u64, order: &[u8], run: &mut Run) -> Result<(), Trouble> {
+        let order = Order {
+            digits: order,
+            hardens: true,
+        };
+        let lines = self.take_lines();
+        let disk = play_files(self.alloc, &self.files, lines, order, run)?;
+        let stopped = self.go_on_from(&disk, turn, run);
+        drop(disk);
+        stopped
+    }
+
+    // Goes on from what a stop behind so many turns of a run leaves, which are printed.
+    fn go_on_from(&mut self, disk: &SilentDisk, turn: u64, run: &mut Run) -> Result<(), Trouble> {
+        run.notes.truncate(turn as usize);
+        put_turns(self.alloc, &mut self.page, run, usize::MAX);
+        let moment = match run.notes.last() {
+            None => 0,
+            Some(noted) => noted.moment,
+        };
+        let looking = Looking {
+            disk: &disk.disk,
+            few: self.files.few,
+            names: &[],
+        };
+        let files = files_by(looking, moment)?;
+        set(&mut self.files, files);
+        let mut point = nowhere(self.alloc);
+        let judged = self.judge_stopped(run, moment, &mut point);
+        drop(point);
+        judged
+    }
+
+    // Says whether the whole tape is legal; the case goes on from the commits that were asked for by a moment, which were hardened.
+    fn judge_stopped(&mut self, run: &Run, moment: u64, point: &mut Point) -> Result<(), Trouble> {
+        if follow(self.alloc, &self.base, run, point)? {
+            self.page.add(b"legal\n");
+            let tables = tables_at(self.alloc, &point.state, asked_by(&run.tape, moment))?;
+            set(&mut self.base, tables);
+        } else {
+            self.page.add(b"illegal\n");
+        }
+        Ok(())
+    }
+
+    // Goes over the files with the cleaner, each record hardened, and says how many images of stops are wrong.
+    fn clean_stops(&mut self, names: &[u8]) -> Result<(), Trouble> {
+        let mut log = Gathered::new(self.alloc);
+        let cleaned = self.clean_stops_by(names, &mut log);
+        drop(log);
+        cleaned
+    }
+
+    fn clean_stops_by(&mut self, names: &[u8], log: &mut Gathered) -> Result<(), Trouble> {
+        let Some((disk, done)) = clean_disk(self.alloc, &self.files, true, log) else {
+            return Err(Trouble::NotOpened);
+        };
+        let judged = self.judge_cleaned(&disk, done, names, log);
+        set(&mut self.files.image, files_of(disk));
+        judged
+    }
+
+    // The records of a pass, and how many images of its stops don't have the rows that were there.
+    fn judge_cleaned(
+        &mut self,
+        disk: &SilentDisk,
+        done: Result<(u64, u64), Trouble>,
+        names: &[u8],
+        log: &Gathered,
+    ) -> Result<(), Trouble> {
+        let (from, to) = done?;
+        self.page.add(b"clean ");
+        let _count = put_records(self.alloc, &mut self.page, log.visits(), from, to);
+        self.page.add(b"\n");
+        let looking = Looking {
+            disk: &disk.disk,
+            few: self.files.few,
+            names,
+        };
+        let run = Run::new(self.alloc);
+        let counted = self.count_resting(looking, &run);
+        drop(run);
+        counted
+    }
+
+    fn count_resting(&mut self, looking: Looking, run: &Run) -> Result<(), Trouble> {
+        let point = resting(self.alloc, &self.base)?;
+        let judging = Judging {
+            looking,
+            run,
+            state: &point.state,
+        };
+        let wrong = count_wrong(self.alloc, judging);
+        drop(point);
+        self.page.add_number("", wrong?);
+        self.page.add(b" images are wrong\n");
+        Ok(())
+    }
+
+    // Says what is left to clean in the files.
+    fn test_bare(&mut self) -> Result<(), Trouble> {
+        match left_in(self.alloc, &self.files)? {
+            None => self.page.add(b"bare\n"),
+            Some(left) => {
+                self.page.add(b"not bare: ");
+                self.page.add(left.as_bytes());
+                self.page.add(b"\n");
+            }
+        }
+        Ok(())
+    }
+
     // Looks at the files.
     fn look(&mut self, names: &[u8]) -> Result<(), Trouble> {
         put_look(self.alloc, &mut self.page, &self.files, names)?;
@@ -199,7 +320,11 @@ impl Player {
     fn meet(&mut self, count: u64, first: Meeting) -> Result<(), Trouble> {
         let mut met = Met::new();
         meet_all(self.alloc, &self.files, &self.base, count, first, &mut met)?;
-        met.put(&mut self.page);
+        if first.cleans {
+            met.put_judged(&mut self.page);
+        } else {
+            met.put(&mut self.page);
+        }
         Ok(())
     }
 
@@ -235,9 +360,12 @@ impl Player {
                 },
                 names,
             ),
+            Step::Stopped { turn, order } => self.stop(turn, order),
             Step::Look { names } => self.look(names),
             Step::Undo => self.undo(),
             Step::Clean => self.clean(),
+            Step::CleanStops { names } => self.clean_stops(names),
+            Step::Bare => self.test_bare(),
             Step::Full => fill(self.alloc, &mut self.files),
             Step::Meetings { count, first } => self.meet(count, first),
             Step::Meeting { meeting } => self.show(meeting),

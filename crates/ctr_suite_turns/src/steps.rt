@@ -36,6 +36,11 @@ pub enum Step<'a> {
         hardens: bool,
         names: &'a [u8],
     },
+    /// Plays it, each turn hardened, and goes on from what a stop behind so many turns leaves.
+    Stopped {
+        turn: u64,
+        order: &'a [u8],
+    },
     /// Looks at the files.
     Look {
         names: &'a [u8],
@@ -44,6 +49,12 @@ pub enum Step<'a> {
     Undo,
     /// A pass of the cleaner over the files.
     Clean,
+    /// The same, hardened behind each record, and looks at what stops leave.
+    CleanStops {
+        names: &'a [u8],
+    },
+    /// Says what is left to clean in the files.
+    Bare,
     /// So many generated runs, of this one and those behind it.
     Meetings {
         count: u64,
@@ -74,6 +85,21 @@ fn stops_of(rest: &[u8], hardens: bool) -> Option<Step> {
         hardens,
         names,
     })
+}
+
+// `3 1122`: a turn, and an order.
+fn stopped_of(rest: &[u8]) -> Option<Step> {
+    let (turn, order) = split_word(rest);
+    let mut words = Words::new(turn);
+    let turn = words.value();
+    if words.are_right() {
+        Some(Step::Stopped {
+            turn,
+            order: order_of(order)?,
+        })
+    } else {
+        None
+    }
 }
 
 // `1 20 1> INSERT ..`
@@ -126,9 +152,12 @@ enum Verb {
     Play,
     Stops,
     Hardened,
+    Stopped,
     Look,
     Undo,
     Clean,
+    CleanStops,
+    Bare,
     Full,
     Meetings,
     Meeting,
@@ -144,9 +173,12 @@ const VERBS: &[(&str, Verb)] = &[
     ("play", Verb::Play),
     ("stops", Verb::Stops),
     ("hardened", Verb::Hardened),
+    ("stopped", Verb::Stopped),
     ("look", Verb::Look),
     ("undo", Verb::Undo),
     ("clean", Verb::Clean),
+    ("clean-stops", Verb::CleanStops),
+    ("bare", Verb::Bare),
     ("full", Verb::Full),
     ("meetings", Verb::Meetings),
     ("meeting", Verb::Meeting),
@@ -174,9 +206,12 @@ pub fn step_of(line: &[u8]) -> Option<Step> {
         Verb::Play => play_of(rest),
         Verb::Stops => stops_of(rest, false),
         Verb::Hardened => stops_of(rest, true),
+        Verb::Stopped => stopped_of(rest),
         Verb::Look => Some(Step::Look { names: rest }),
         Verb::Undo => Some(Step::Undo),
         Verb::Clean => Some(Step::Clean),
+        Verb::CleanStops => Some(Step::CleanStops { names: rest }),
+        Verb::Bare => Some(Step::Bare),
         Verb::Full => Some(Step::Full),
         Verb::Meetings => meetings_of(rest, false),
         Verb::Meeting => meeting_of(rest, false),

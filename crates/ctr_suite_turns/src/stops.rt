@@ -40,9 +40,19 @@ fn files_after(looking: Looking, count: usize, k: u64) -> Result<Files, AllocErr
     })
 }
 
+/// What a run leaves at its end, of what is synced.
+pub fn files_at_end(looking: Looking) -> Result<Files, AllocError> {
+    files_after(looking, looking.disk.calls().len(), 0)
+}
+
+/// What a stop at a moment leaves, of what is synced.
+pub fn files_by(looking: Looking, moment: u64) -> Result<Files, AllocError> {
+    files_after(looking, calls_by(looking.disk.calls(), moment), 0)
+}
+
 // What a crash leaves of which nothing is written but what is synced.
 fn put_stop(alloc: Global, page: &mut Page, looking: Looking, moment: u64) -> Result<(), Trouble> {
-    let files = files_after(looking, calls_by(looking.disk.calls(), moment), 0)?;
+    let files = files_by(looking, moment)?;
     let put = put_look(alloc, page, &files, looking.names);
     drop(files);
     put
@@ -171,8 +181,8 @@ fn are_found_well(
     is_found(alloc, judging, least, found)
 }
 
-// Whether files have the rows behind commits, as many as were answered at least, before undo and behind it.
-fn are_files_well(
+/// Whether files have the rows behind commits, as many as were answered at least, before undo and behind it.
+pub fn are_files_well(
     alloc: Global,
     judging: Judging,
     least: u64,

@@ -1,42 +1,44 @@
-use Rattle.std.proofs.Common.{◌≡◌, false, cond, None, is_some, refl, sym, ap, subst, ◌∙◌, arith}
-use Rattle.std.specs.Prelude.{insert, is_ok}
+use Rattle.std.proofs.Common.{◌≡◌, ◌∙◌, ℕ, List, length, cond, eqb, Some, None, sym, ap, subst, arith}
 use Rattle.ctr_pool.specs.declared.frame.Frame.{Frame}
-use Rattle.ctr_pool.specs.Frames.{frame_of, has_page, dirty_count}
-use Rattle.ctr_pool.specs.Kept.{FrameList, AreOrdered}
-use Rattle.ctr_pool.proofs.FrameLaws.{found_there, add_ordered, add_frames, add_count}
-use Rattle.ctr_pool.proofs.frames.Frames.add.Goals.{After-unwrap}
+use Rattle.ctr_pool.specs.Frames.{frame_of, dirty_count}
+use Rattle.ctr_pool.specs.Kept.{FrameList, ArePlaced, place_of}
+use Rattle.ctr_pool.proofs.FrameLaws.{frame_push, count_push}
+use Rattle.ctr_pool.proofs.PlacedLaws.{unplaced, placed_push}
 use Rattle.ctr_pool.proofs.frames.Frames.add.Goals as goal
 
-pub unreachable-requires : goal.unreachable-requires
-unreachable-requires c =
-    let to : c.self.inside.items.items ≡ c.args.self.now.frames = ap (λ (v : FrameList). v.frames) c.self.view_is in
-    let there = found_there c.self.inside.items.items c.deref.result.now c.in_default.field-0 c.args.page c.deref.ensures.value c.self.invariant c.in_default.ensures.found in
-    let none : has_page c.args.page c.self.inside.items.items ≡ false = ap (has_page c.args.page) to ∙ ap is_some c.requires.new in
-    absurd cc
-
--- the frames that callers see are those that are kept
-shown : (c : After-unwrap) → c.self.inside.items.items ≡ c.args.self.now.frames
-shown c = ap (λ (v : FrameList). v.frames) c.self.view_is
-
--- the page's new frame, which is clean
-abbrev new : After-unwrap → Frame
-new c = record { page = c.args.page; lsn = c.args.lsn; since = None; body = c.args.body }
-
-put : (c : After-unwrap) → c.insert.new.self.items ≡ insert c.self.inside.items.items c.in-Err.at (new c)
-put c = c.insert.ensures.items ∙ ap (λ r. cond (is_ok r) (insert c.self.inside.items.items c.in-Err.at (new c)) c.self.inside.items.items) c.unwrap.ensures
+pub add-requires-clause-new : goal.add-requires-clause-new
+add-requires-clause-new c =
+    let fs = c.self.inside.items.items in
+    let to : fs ≡ c.args.self.now.frames = ap (λ (v : FrameList). v.frames) c.self.view_is in
+    let new : Frame = record { page = c.args.page; lsn = c.args.lsn; since = None; body = c.args.body } in
+    unplaced c.self.inside.places.entries fs c.self.invariant.0 c.args.page new (ap (frame_of c.args.page) to ∙ c.requires.new)
 
 pub invariant_of-self : goal.invariant_of-self
 invariant_of-self c =
-    let at = (goal.at.invariant_of-self c).After-unwrap in
-    subst AreOrdered (sym (put at)) (add_ordered c.self.inside.items.items c.deref.result.now c.args.self.now.frames c.in-Err.at c.args.page (new at) c.deref.ensures.value (shown at) c.self.invariant c.in-Err.ensures.within c.in-Err.ensures.below c.in-Err.ensures.above refl)
+    let fs = c.self.inside.items.items in
+    let es = c.self.inside.places.entries in
+    let to : fs ≡ c.args.self.now.frames = ap (λ (v : FrameList). v.frames) c.self.view_is in
+    let new : Frame = record { page = c.args.page; lsn = c.args.lsn; since = None; body = c.args.body } in
+    let at : c.len-at.result ≡ length fs = omega (arith, c.len-at.ensures) in
+    let kept = c.self.invariant in (
+      subst (ArePlaced c.add.new.self.entries) (sym c.push_reserved.ensures.items)
+          (placed_push es fs kept.0 new c.add.new.self.entries (ap (frame_of c.args.page) to ∙ c.requires.new) (λ q. c.add.ensures.places q ∙ ap (λ (n : ℕ). cond (eqb c.args.page q) (Some n) (place_of q es)) at)),
+      omega (arith, kept.1, c.add.ensures.len, c.push_reserved.ensures.len),
+      omega (arith, kept.2, c.add.ensures.len, c.add.ensures.room, c.push_reserved.ensures.capacity),
+    )
 
 pub returns-clause-frames : goal.returns-clause-frames
 returns-clause-frames c q =
-    let at = (goal.at.returns-clause-frames c).After-unwrap in
-    ap (frame_of q) (put at) ∙ add_frames c.self.inside.items.items c.deref.result.now c.args.self.now.frames c.in-Err.at c.args.page (new at) c.deref.ensures.value (shown at) c.self.invariant c.in-Err.ensures.within c.in-Err.ensures.below c.in-Err.ensures.above refl q
+    let fs = c.self.inside.items.items in
+    let to : fs ≡ c.args.self.now.frames = ap (λ (v : FrameList). v.frames) c.self.view_is in
+    let new : Frame = record { page = c.args.page; lsn = c.args.lsn; since = None; body = c.args.body } in
+    ap (frame_of q) c.push_reserved.ensures.items ∙ frame_push fs new (ap (frame_of c.args.page) to ∙ c.requires.new) q
+    ∙ ap (λ (l : List Frame). cond (eqb c.args.page q) (Some new) (frame_of q l)) to
 
 pub returns-clause-count : goal.returns-clause-count
 returns-clause-count c =
-    let at = (goal.at.returns-clause-count c).After-unwrap in
-    let n = add_count c.self.inside.items.items c.deref.result.now c.args.self.now.frames c.in-Err.at c.args.page (new at) c.deref.ensures.value (shown at) c.self.invariant c.in-Err.ensures.within c.in-Err.ensures.below c.in-Err.ensures.above refl in
-    omega (arith, n, ap dirty_count (put at))
+    let fs = c.self.inside.items.items in
+    let to : fs ≡ c.args.self.now.frames = ap (λ (v : FrameList). v.frames) c.self.view_is in
+    let new : Frame = record { page = c.args.page; lsn = c.args.lsn; since = None; body = c.args.body } in
+    let n = count_push fs new in
+    omega (arith, n, ap dirty_count c.push_reserved.ensures.items, ap dirty_count to)

@@ -3,5 +3,5 @@ use Rattle.ctr_pool.specs.declared.frame.Frame.{Frame}
 use Rattle.ctr_pool.specs.Frames.{is_dirty}
 use Rattle.ctr_pool.proofs.frames.Frames.clean_from.Given as goal
 
-abbrev pub invariant-loop-at : goal.invariant-loop-at
-invariant-loop-at l = (k : ℕ) (d : Frame) → l.from ≤ k → k < l.at → is_dirty (get_or l.self-inside.items.items k d) ≡ true
+abbrev pub invariant-loop-rank : goal.invariant-loop-rank
+invariant-loop-rank l = (k : ℕ) (d : Frame) → l.from ≤ k → k < l.rank → is_dirty (get_or l.self-inside.items.items (get_or l.self-inside.places.entries k (0, 0)).1 d) ≡ true

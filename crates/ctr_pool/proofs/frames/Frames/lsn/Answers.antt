@@ -2,17 +2,15 @@ use Rattle.std.proofs.Common.{◌≡◌, Some, None, sym, ap, ◌∙◌}
 use Rattle.ctr_pool.specs.declared.frame.Frame.{Frame}
 use Rattle.ctr_pool.specs.Frames.{frame_of}
 use Rattle.ctr_pool.specs.Kept.{FrameList}
-use Rattle.ctr_pool.proofs.FrameLaws.{missing, frame_is}
+use Rattle.ctr_pool.proofs.FrameLaws.{frame_is}
+use Rattle.ctr_pool.proofs.PlacedLaws.{apart}
 use Rattle.ctr_pool.proofs.frames.Frames.lsn.Goals as goal
 
-pub returns-in-Ok : goal.returns-in-Ok
-returns-in-Ok c f is = ap (λ (g : Frame). g.lsn) (frame_is c.self.inside.items.items c.deref.result.now c.in-Ok.at c.args.page c.index.result.now f c.deref.ensures.value c.self.invariant c.in-Ok.ensures.found c.index.ensures
-    (ap (λ (v : FrameList). frame_of c.args.page v.frames) c.self.view_is ∙ is))
-
-pub returns-in-Err : goal.returns-in-Err
-returns-in-Err c f is =
+pub returns-in-Some : goal.returns-in-Some
+returns-in-Some c f is =
     let fs = c.self.inside.items.items in
     let to : fs ≡ c.args.self.now.frames = ap (λ (v : FrameList). v.frames) c.self.view_is in
-    let none = missing fs c.deref.result.now c.in-Err.field-0 c.args.page c.deref.ensures.value c.in-Err.ensures.below c.in-Err.ensures.above in
-    let no : None ≡ Some f = sym none ∙ ap (frame_of c.args.page) to ∙ is in
-    absurd cc
+    ap (λ (g : Frame). g.lsn) (frame_is fs c.args.self.now.frames c.in-Some.at c.args.page c.index.result.now f (sym to) (apart c.self.inside.places.entries fs c.self.invariant.0) c.in-Some.ensures.there c.index.ensures (ap (frame_of c.args.page) to ∙ is))
+
+pub returns-in-None : goal.returns-in-None
+returns-in-None c f is = let no : None ≡ Some f = sym c.in-None.ensures.none ∙ is in absurd cc

@@ -3,7 +3,8 @@ use Rattle.ctr_pool.specs.Pages.{PageHeld}
 use Rattle.ctr_pool.specs.Below.{PutsPage}
 use Rattle.ctr_pool.specs.Frames.{frame_of, has_page, page_of}
 use Rattle.ctr_pool.specs.Kept.{FrameList}
-use Rattle.ctr_pool.proofs.FrameLaws.{stands, missing}
+use Rattle.ctr_pool.proofs.FrameLaws.{stands}
+use Rattle.ctr_pool.proofs.PlacedLaws.{apart}
 use Rattle.ctr_pool.proofs.frames.Frames.save.Goals as goal
 
 pub save-requires-clause-takes : goal.save-requires-clause-takes
@@ -12,17 +13,14 @@ save-requires-clause-takes g c told =
     let fs = c.self.inside.items.items in
     let to : fs ≡ c.args.self.now.frames = ap (λ (v : FrameList). v.frames) c.self.view_is in
     let x = c.index-frame.result.now in
-    let at_is = stands fs c.deref.result.now c.in-Ok.at c.args.page x c.deref.ensures.value c.self.invariant c.in-Ok.ensures.found c.index-frame.ensures in
+    let at_is = stands fs c.args.self.now.frames c.in-Some.at c.args.page x (sym to) (apart c.self.inside.places.entries fs c.self.invariant.0) c.in-Some.ensures.there c.index-frame.ensures in
     let all = c.requires.takes told x (ap (frame_of c.args.page) (sym to) ∙ at_is.frame) in
     let v : page_of x ≡ record { lsn = x.lsn; body = c.as_slice.result.now } = ap (λ (b : List ℕ). record { lsn = x.lsn; body = b }) (sym c.as_slice.ensures.bytes) in
     (all.0, all.1, subst (λ (h : PageHeld). d.may_be_saved c.args.backing.now c.args.page all.1 h) v all.2)
 
 pub unreachable-requires : goal.unreachable-requires
 unreachable-requires g c =
-    let fs = c.self.inside.items.items in
-    let to : fs ≡ c.args.self.now.frames = ap (λ (v : FrameList). v.frames) c.self.view_is in
-    let none = missing fs c.deref.result.now c.in-Err.field-0 c.args.page c.deref.ensures.value c.in-Err.ensures.below c.in-Err.ensures.above in
-    let out : has_page c.args.page c.args.self.now.frames ≡ false = ap (has_page c.args.page) (sym to) ∙ ap is_some none in
+    let out : has_page c.args.page c.args.self.now.frames ≡ false = ap is_some c.in-None.ensures.none in
     let there = c.requires.there in
     absurd cc
 
@@ -32,7 +30,7 @@ returns-clause-saved g c told f is =
     let fs = c.self.inside.items.items in
     let to : fs ≡ c.args.self.now.frames = ap (λ (v : FrameList). v.frames) c.self.view_is in
     let x = c.index-frame.result.now in
-    let at_is = stands fs c.deref.result.now c.in-Ok.at c.args.page x c.deref.ensures.value c.self.invariant c.in-Ok.ensures.found c.index-frame.ensures in
+    let at_is = stands fs c.args.self.now.frames c.in-Some.at c.args.page x (sym to) (apart c.self.inside.places.entries fs c.self.invariant.0) c.in-Some.ensures.there c.index-frame.ensures in
     let both : Some x ≡ Some f = sym at_is.frame ∙ ap (frame_of c.args.page) to ∙ is in
     let one : x ≡ f = cc in
     let v : record { lsn = x.lsn; body = c.as_slice.result.now } ≡ page_of f = ap (λ (b : List ℕ). record { lsn = x.lsn; body = b }) c.as_slice.ensures.bytes ∙ ap page_of one in
