@@ -1,0 +1,2 @@
+pub mod Enduring
+pub mod Beside

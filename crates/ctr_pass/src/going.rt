@@ -1,0 +1,100 @@
+// A turn of the cleaner beside sessions.
+ghost use Rattle.std.specs.Prelude.{◌≡◌, ◌≤◌, true, false, IfErr, IfOk, OnOk};
+ghost use Rattle.ctr_disk.specs.declared.fault.StoreFault.TheVariants.{Fault};
+ghost use Rattle.ctr_base.specs.Base.{WhereSound};
+ghost use Rattle.ctr_record_effects.specs.Standing.{IsDatabaseState};
+ghost use Rattle.ctr_actions.specs.Sites.{site_of};
+ghost use Rattle.ctr_walk.specs.OneRecord.{HasRoomForOne};
+ghost use Rattle.ctr_walk.specs.Damage.{ReadsPages};
+ghost use Rattle.ctr_page_turns.specs.Turns.{Turns};
+ghost use Rattle.ctr_cursor.specs.Standing.{IsPosition, IsCountedPosition};
+ghost use Rattle.ctr_cleaner.specs.Turning.{heeding, LeavesRoomBy, next_cleaned};
+ghost use Rattle.ctr_pass.specs.Beside.{entry_first};
+ghost use Rattle.ctr_pass.specs.Going.{IsWithinBy, WentAs};
+
+use ctr_base::Origin;
+use ctr_cleaner::{CleanTurn, MayEmpty, turn};
+use ctr_cursor::{Position, is_there};
+use ctr_disk::{Disk, StoreFault};
+use ctr_locks::KeyLocks;
+use ctr_page_turns::a_turn_goes_on;
+use ctr_store::Store;
+use ctr_types::Xid;
+
+/// What a turn of the cleaner did, and at which position of its pass.
+#[derive(Clone, Copy, Debug, PartialEq, Eq)]
+pub struct Went {
+    pub from: Position,
+    pub did: CleanTurn,
+}
+
+/// The first position of a position's entry; an aborted transaction has none, and its position stays.
+fn entry_of(at: Position) -> Position
+    ensures { result ≡ entry_first at }
+{
+    match at {
+        Position::Slot { entry, .. } | Position::Kept { entry, .. } => Position::Entry { entry },
+        Position::Entry { .. } | Position::Aborted { .. } => at,
+    }
+}
+
+/// Where a turn is taken: at the pass's position, where that is one still, else at the first one of its entry.
+fn place_for<D: Disk, O: Origin>(
+    store: &mut Store<D, O>,
+    at: Position,
+    stayed: bool,
+) -> Result<Position, StoreFault>
+    requires going { store.old.stopped ≡ false }
+    requires within { IsCountedPosition store.old.now.counted at }
+    ensures stays { IfOk result (λ x. (stayed ≡ true → x ≡ at) × IsCountedPosition store.old.now.counted x) }
+    ensures there { WhereSound O.first D.Disk (IsDatabaseState store.old.now → (stayed ≡ true → IsPosition at (site_of store.old.now)) → IfOk result (λ x. IsPosition x (site_of store.old.now))) }
+    ensures refused { WhereSound O.first D.Disk (IsDatabaseState store.old.now → IfErr result (λ f. f ≡ Fault)) }
+    ensures leaves { ReadsPages O.first D.Disk store.old store.new result }
+{
+    store.rests();
+    if stayed {
+        return Ok(at);
+    }
+    match is_there(store, at) {
+        Err(fault) => Err(fault),
+        Ok(true) => Ok(at),
+        Ok(false) => Ok(entry_of(at)),
+    }
+}
+
+/// A turn of the cleaner beside sessions, at the position of its pass. Where something was logged since its last turn, `stayed` is false, and the position is
+/// looked for: where its page has left its chain the turn is taken at the position's entry. It takes no memory.
+pub fn clean_from<D: Disk, O: Origin>(
+    store: &mut Store<D, O>,
+    locks: &KeyLocks,
+    low: Xid,
+    spared: usize,
+    may: MayEmpty,
+    at: Position,
+    stayed: bool,
+) -> Result<Went, StoreFault>
+    requires room { HasRoomForOne 0 0 store.old }
+    requires item { may.unlink ≡ true → 1 ≤ store.old.meta.items_room }
+    requires within { IsCountedPosition store.old.now.counted at }
+    // It logs one record, or reads pages.
+    ensures turns { Turns O.first D.Disk store.old store.new result }
+    ensures numbers { IfOk result (λ w. store.new.next ≡ next_cleaned w.did store.old.next) }
+    ensures left { IfOk result (λ w. LeavesRoomBy w.did store.old.meta store.new.meta) }
+    ensures counted { OnOk result (store.new.now.counted ≡ store.old.now.counted) }
+    ensures within { IfOk result (IsWithinBy stayed may.unlink store.new.now.counted at) }
+    // It is taken at a position of the state, and is an action of the cleaner's there, or there is none.
+    ensures cleans { WhereSound O.first D.Disk (IsDatabaseState store.old.now → (stayed ≡ true → IsPosition at (site_of store.old.now))
+        → IfOk result (WentAs (heeding low locks.now spared may) store.old.now store.new.now)) }
+    // It is refused for no other cause than that the disk failed.
+    ensures refused { WhereSound O.first D.Disk (IsDatabaseState store.old.now → (stayed ≡ true → IsPosition at (site_of store.old.now)) → IfErr result (λ f. f ≡ Fault)) }
+{
+    a_turn_goes_on::<D, Position, Went>();
+    a_turn_goes_on::<D, CleanTurn, Went>();
+    match place_for(store, at, stayed) {
+        Err(fault) => Err(fault),
+        Ok(from) => match turn(store, locks, low, spared, may, from) {
+            Err(fault) => Err(fault),
+            Ok(did) => Ok(Went { from, did }),
+        },
+    }
+}
