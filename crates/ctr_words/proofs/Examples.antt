@@ -33,3 +33,22 @@ no_command : (command_asked (codes "init" ∷ codes "shop" ∷ codes "--frames=8
     × (command_asked [] ≡ None)
 unfolding clap_on_literals
 no_command = (refl, refl, refl, refl, refl, refl)
+
+-- a load of the folder `shop`
+abbrev load_with : List Text → Option Subcommand
+load_with rest = command_asked (codes "load" ∷ codes "shop" ∷ rest)
+
+loads : (load_with (codes "--sessions" ∷ codes "1" ∷ codes "--count" ∷ codes "0" ∷ codes "--seed" ∷ codes "0" ∷ []) ≡ Some (asked.Load 64 1 0 0))
+    × (load_with (codes "--seed=18446744073709551615" ∷ codes "--frames=8" ∷ codes "--count=1000000" ∷ codes "--sessions=8" ∷ []) ≡ Some (asked.Load 8 8 1000000 18446744073709551615))
+unfolding clap_on_literals
+loads = (refl, refl)
+
+-- an option that isn't there; a number that is too small, too large, negative, or no number; one that is another command's
+no_loads : (load_with (codes "--sessions=1" ∷ codes "--count=0" ∷ []) ≡ None) × (load_with (codes "--sessions=1" ∷ codes "--seed=0" ∷ []) ≡ None)
+    × (load_with (codes "--count=0" ∷ codes "--seed=0" ∷ []) ≡ None) × (load_with (codes "--sessions=0" ∷ codes "--count=0" ∷ codes "--seed=0" ∷ []) ≡ None)
+    × (load_with (codes "--sessions=9" ∷ codes "--count=0" ∷ codes "--seed=0" ∷ []) ≡ None) × (load_with (codes "--sessions=1" ∷ codes "--count=1000001" ∷ codes "--seed=0" ∷ []) ≡ None)
+    × (load_with (codes "--sessions=1" ∷ codes "--count=0" ∷ codes "--seed=18446744073709551616" ∷ []) ≡ None)
+    × (load_with (codes "--sessions=1" ∷ codes "--count=0" ∷ codes "--seed=-1" ∷ []) ≡ None) × (load_with (codes "--sessions=1" ∷ codes "--count=x" ∷ codes "--seed=0" ∷ []) ≡ None)
+    × (load_with (codes "--sessions=1" ∷ codes "--count=0" ∷ codes "--seed=0" ∷ codes "--frames=7" ∷ []) ≡ None) × (run_with (codes "--seed=0" ∷ []) ≡ None)
+unfolding clap_on_literals
+no_loads = (refl, refl, refl, refl, refl, refl, refl, refl, refl, refl, refl)

@@ -317,7 +317,7 @@ another : {X : Type 0} → false ≡ true → X
 another e = cc
 
 all_named : EachIsRun (built simple_command).subs
-all_named = (another, ((λ e. run_keeps), (another, (another, tt))))
+all_named = (another, ((λ e. run_keeps), (another, (another, (another, tt)))))
 
 enters : (stop : Option (Text × List Text)) → entered_fault (built simple_command) stop ≡ [] → (met : Text × List Row) → entered (built simple_command) stop ≡ Some met
     → bytes_eq met.0 (codes "run") ≡ true → Fine met.1

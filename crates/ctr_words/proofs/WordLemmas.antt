@@ -1,9 +1,10 @@
 -- What a command line asks for.
 use Rattle.std.proofs.Common.{◌≡◌, ◌∙◌, ◌==◌, ℕ, List, [], ◌∷◌, Bool, true, false, Option, Some, None, cond, drop, find, refl, sym, ap, ap₂, subst, arith, codes}
-use Rattle.std.specs.Prelude.{IfSome, if◌then◌else◌, option_and_then, option_map, pos, slice_get, unwrap_or}
+use Rattle.std.specs.Prelude.{IfSome, ◌≤◌, ◌&&◌, nat_le, if◌then◌else◌, option_and_then, option_map, pos, slice_get, unwrap_or}
 use Rattle.std.specs.Option.{option_map_or}
 use Rattle.std.specs.Str.{bytes_eq}
 use Rattle.std.specs.Str.Parse.{ParsesUnsigned, ExplainsUnsignedError, HasUnsignedDigitsIfOk, starts_with_minus}
+use Rattle.std.proofs.lemmas.Bool.{false≢true, le-leb, leb-true}
 use Rattle.std.proofs.lemmas.Int.{ints}
 use Rattle.clap.specs.Words.{Text, Kinds, Row, IsAmong, IsSignedIn, ReadsOne, fault_of, one_of, read_as, subcommand_of, subcommand_rows_of, without_minus}
 use Rattle.clap.specs.Faults.{values_fault}
@@ -18,7 +19,7 @@ use Rattle.clap.specs.declared.parser.matches.ArgMatches.{ArgMatches}
 use Rattle.clap.proofs.ValueTestLemmas.{Accepts-accepts, accepts-Accepts}
 use Rattle.ctr_words.specs.declared.words.Subcommand.{Subcommand}
 use Rattle.ctr_words.specs.declared.words.Subcommand.TheVariants as asked
-use Rattle.ctr_words.specs.Words.{command_asked, frames_asked, has_folder, number_in, command_named, simple_command, unless_fault, HasFrames}
+use Rattle.ctr_words.specs.Words.{command_asked, frames_asked, has_folder, load_asked, number_asked, number_in, command_named, simple_command, unless_fault, AreInRange}
 use Rattle.ctr_words.specs.Read.{is_number, IsRead}
 use Rattle.ctr_words.proofs.FaultFree.{Fine, frames_filled, run_fine}
 
@@ -122,37 +123,109 @@ all_read words fault = go (subcommand_of simple_command words) refl
 
 -- ---- 8 to 4,096
 
-asked_fits : (rows : List Row) → is_number rows ≡ true → HasFrames (asked.Run (frames_asked rows))
+asked_fits : (rows : List Row) → is_number rows ≡ true → AreInRange (asked.Run (frames_asked rows))
 asked_fits rows number = go (one_of (codes "frames") rows) number
   where
-    go : (o : Option Text) → option_map_or (is_unsigned_in 8 4096) o true ≡ true → HasFrames (asked.Run (option_map_or number_in o 64))
+    go : (o : Option Text) → option_map_or (is_unsigned_in 8 4096) o true ≡ true → AreInRange (asked.Run (option_map_or number_in o 64))
     go None e = (omega arith, omega arith)
     go (Some text) e =
         let accepted = accepts-Accepts false (Unsigned 8 4096) text e in
         (accepted.2, accepted.3)
 
-named_fits : (met : Text × List Row) (s : Subcommand) → IsRead met → command_named met ≡ Some s → HasFrames s
-named_fits met s read is = go (bytes_eq met.0 (codes "init")) (bytes_eq met.0 (codes "run")) (bytes_eq met.0 (codes "report")) refl is
+number_fits : (name : Text) (least most n : ℕ) (rows : List Row) → number_asked name least most rows ≡ Some n → (least ≤ n) × (n ≤ most)
+number_fits name least most n rows is = by_text (one_of name rows) is
   where
-    go : (init run report : Bool) → bytes_eq met.0 (codes "run") ≡ run
-        → (if init then Some asked.Init else if run then Some (asked.Run (frames_asked met.1)) else if report then Some asked.Report else None) ≡ Some s → HasFrames s
-    go true run report met_run same =
-        let here : asked.Init ≡ s = cc in
-        subst HasFrames here tt
-    go false true report met_run same =
-        let here : asked.Run (frames_asked met.1) ≡ s = cc in
-        subst HasFrames here (asked_fits met.1 (read met_run))
-    go false false true met_run same =
-        let here : asked.Report ≡ s = cc in
-        subst HasFrames here tt
-    go false false false met_run same = cc
+    by_text : (o : Option Text) → option_and_then (λ t. if is_unsigned_in least most t then Some (number_in t) else None) o ≡ Some n → (least ≤ n) × (n ≤ most)
+    by_text None e = absurd cc
+    by_text (Some t) e = pick (is_unsigned_in least most t) refl e
+      where
+        pick : (b : Bool) → is_unsigned_in least most t ≡ b → (if b then Some (number_in t) else None) ≡ Some n → (least ≤ n) × (n ≤ most)
+        pick true told same =
+            let accepted = accepts-Accepts false (Unsigned least most) t told in
+            let here : number_in t ≡ n = cc in
+            (subst (λ m. least ≤ m) here accepted.2, subst (λ m. m ≤ most) here accepted.3)
+        pick false told same = absurd cc
 
--- a run that words ask for has 8 to 4,096 frames
-pub fits : (words : List Text) (s : Subcommand) → command_asked words ≡ Some s → HasFrames s
+load_fits : (rows : List Row) (s : Subcommand) → load_asked rows ≡ Some s → AreInRange s
+load_fits rows s is =
+    go (number_asked (codes "frames") 8 4096 rows) (number_asked (codes "sessions") 1 8 rows) (number_asked (codes "count") 0 1000000 rows) (number_asked (codes "seed") 0 18446744073709551615 rows)
+    (λ n e. number_fits (codes "frames") 8 4096 n rows e) (λ n e. number_fits (codes "sessions") 1 8 n rows e) (λ n e. number_fits (codes "count") 0 1000000 n rows e) is
+  where
+    go : (frames sessions count seed : Option ℕ) → ((n : ℕ) → frames ≡ Some n → (8 ≤ n) × (n ≤ 4096)) → ((n : ℕ) → sessions ≡ Some n → (1 ≤ n) × (n ≤ 8)) → ((n : ℕ) → count ≡ Some n → (0 ≤ n) × (n ≤ 1000000))
+        → option_and_then (λ a. option_and_then (λ b. option_map (λ c. asked.Load (unwrap_or frames 64) a b c) seed) count) sessions ≡ Some s → AreInRange s
+    go frames None count seed f g h e = absurd cc
+    go frames (Some a) None seed f g h e = absurd cc
+    go frames (Some a) (Some b) None f g h e = absurd cc
+    go None (Some a) (Some b) (Some c) f g h e =
+        let here : asked.Load 64 a b c ≡ s = cc in
+        subst AreInRange here (omega arith, omega arith, (g a refl).0, (g a refl).1, (h b refl).1)
+    go (Some n) (Some a) (Some b) (Some c) f g h e =
+        let here : asked.Load n a b c ≡ s = cc in
+        subst AreInRange here ((f n refl).0, (f n refl).1, (g a refl).0, (g a refl).1, (h b refl).1)
+
+named_fits : (met : Text × List Row) (s : Subcommand) → IsRead met → command_named met ≡ Some s → AreInRange s
+named_fits met s read is = go (bytes_eq met.0 (codes "init")) (bytes_eq met.0 (codes "run")) (bytes_eq met.0 (codes "load")) (bytes_eq met.0 (codes "report")) refl is
+  where
+    go : (init run load report : Bool) → bytes_eq met.0 (codes "run") ≡ run
+        → (if init then Some asked.Init else if run then Some (asked.Run (frames_asked met.1)) else if load then load_asked met.1 else if report then Some asked.Report else None) ≡ Some s → AreInRange s
+    go true run load report met_run same =
+        let here : asked.Init ≡ s = cc in
+        subst AreInRange here tt
+    go false true load report met_run same =
+        let here : asked.Run (frames_asked met.1) ≡ s = cc in
+        subst AreInRange here (asked_fits met.1 (read met_run))
+    go false false true report met_run same = load_fits met.1 s same
+    go false false false true met_run same =
+        let here : asked.Report ≡ s = cc in
+        subst AreInRange here tt
+    go false false false false met_run same = cc
+
+-- ---- the numbers of a load
+
+-- a number that is read, and lies in a range, is what the rows ask for
+pub number_read : (least most : ℕ) (text : Option Text) (rows : List Row) (name : Text) (r : Option ℕ) → text ≡ one_of name rows → (text ≡ None → r ≡ None)
+    → ((t : Text) → text ≡ Some t → ReadsOne (λ bs x. ParsesUnsigned 64 10 bs x × ExplainsUnsignedError 10 bs x × HasUnsignedDigitsIfOk bs x) t r)
+    → option_and_then (λ n. if nat_le least n && nat_le n most then Some n else None) r ≡ number_asked name least most rows
+number_read least most None rows name r same none some =
+    ap (option_and_then (λ n. if nat_le least n && nat_le n most then Some n else None)) (none refl) ∙ ap (option_and_then (λ t. if is_unsigned_in least most t then Some (number_in t) else None)) same
+number_read least most (Some t) rows name r same none some =
+    by_read r (some t refl) ∙ ap (option_and_then (λ t. if is_unsigned_in least most t then Some (number_in t) else None)) same
+  where
+    by_read : (r : Option ℕ) → ReadsOne (λ bs x. ParsesUnsigned 64 10 bs x × ExplainsUnsignedError 10 bs x × HasUnsignedDigitsIfOk bs x) t r
+        → option_and_then (λ n. if nat_le least n && nat_le n most then Some n else None) r ≡ (if is_unsigned_in least most t then Some (number_in t) else None)
+    by_read (Some n) read = pick (nat_le least n) (nat_le n most) (is_unsigned_in least most t) refl refl refl
+      where
+        value : n ≡ number_in t
+        value = read.0.1
+
+        pick : (low high passes : Bool) → nat_le least n ≡ low → nat_le n most ≡ high → is_unsigned_in least most t ≡ passes
+            → (if low && high then Some n else None) ≡ (if passes then Some (number_in t) else None)
+        pick true true true l h p = ap Some value
+        pick true true false l h p =
+            let accepted = Accepts-accepts false (Unsigned least most) t (read.0.0.0, read.0.0.1, subst (λ m. least ≤ m) value (leb-true least n l), subst (λ m. m ≤ most) value (leb-true n most h)) in
+            absurd (false≢true (sym p ∙ accepted))
+        pick true false true l h p =
+            let accepted = accepts-Accepts false (Unsigned least most) t p in
+            absurd (false≢true (sym h ∙ le-leb n most (subst (λ m. m ≤ most) (sym value) accepted.3)))
+        pick false high true l h p =
+            let accepted = accepts-Accepts false (Unsigned least most) t p in
+            absurd (false≢true (sym l ∙ le-leb least n (subst (λ m. least ≤ m) (sym value) accepted.2)))
+        pick true false false l h p = refl
+        pick false high false l h p = refl
+    by_read None read = pick (is_unsigned_in least most t) refl
+      where
+        pick : (passes : Bool) → is_unsigned_in least most t ≡ passes → None ≡ (if passes then Some (number_in t) else None)
+        pick true p =
+            let accepted = accepts-Accepts false (Unsigned least most) t p in
+            absurd (read.1.0 (accepted.0, accepted.1))
+        pick false p = refl
+
+-- what words ask for is in range
+pub fits : (words : List Text) (s : Subcommand) → command_asked words ≡ Some s → AreInRange s
 fits words s is = go (has_folder words) (fault_of simple_command words) (subcommand_of simple_command words) refl (all_read words) is
   where
     go : (folder : Bool) (kinds : Kinds) (met : Option (Text × List Row)) → fault_of simple_command words ≡ kinds
-        → (fault_of simple_command words ≡ [] → IfSome met IsRead) → wanted met folder kinds ≡ Some s → HasFrames s
+        → (fault_of simple_command words ≡ [] → IfSome met IsRead) → wanted met folder kinds ≡ Some s → AreInRange s
     go true [] (Some met) fault read same = named_fits met s (read fault) same
     go true [] None fault read same = cc
     go true (k ∷ kinds) met fault read same = cc

@@ -1,13 +1,14 @@
 -- What the words behind the program's name ask for.
 use Rattle.std.specs.Prelude.{◌≡◌, ◌≤◌, ◌⊎◌, ◌==◌, ◌∷◌, ⊤, ℕ, pos, Bool, true, false, not, List, []}
-use Rattle.std.specs.Prelude.{Option, Some, None, codes, if◌then◌else◌, option_and_then}
+use Rattle.std.specs.Prelude.{Option, Some, None, codes, if◌then◌else◌, option_and_then, option_map, unwrap_or}
 use Rattle.std.specs.Option.{option_map_or}
 use Rattle.std.specs.Str.{bytes_eq}
 use Rattle.std.specs.Str.Parse.{digits_value, without_leading_plus}
 use Rattle.clap.specs.Words.{App, Kinds, Row, Rule, Text, fault_of, new_app, new_rule, one_of}
 use Rattle.clap.specs.Words.{subcommand_of, with_rule, with_subcommand}
 use Rattle.clap.specs.declared.builder.action.ArgAction.TheVariants.{Set}
-use Rattle.clap.specs.declared.builder.value_parser.ValueParser.TheVariants.{Signed}
+use Rattle.clap.specs.ValueTests.{is_unsigned_in}
+use Rattle.clap.specs.declared.builder.value_parser.ValueParser.TheVariants.{Signed, Unsigned}
 use Rattle.ctr_words.specs.declared.words.Subcommand.{Subcommand}
 use Rattle.ctr_words.specs.declared.words.Subcommand.TheVariants as asked
 use Rattle.ctr_words.specs.declared.words.WordsError.{WordsError}
@@ -25,6 +26,21 @@ frames_rule = record (new_rule (codes "frames")) {
   parser = Some (Signed (pos 8) (pos 4096));
 }
 
+-- an option that has to be there, with a number from one to another
+abbrev pub number_rule : Text → ℕ → ℕ → Rule
+number_rule name least most = record (new_rule name) {
+  long = Some name;
+  required = true;
+  action = Some Set;
+  parser = Some (Unsigned least most);
+}
+
+-- `load DIR --sessions S --count C --seed X [--frames N]`
+abbrev pub load_command : App
+load_command = with_rule (with_rule (with_rule (with_rule (over_folder (codes "load"))
+    (number_rule (codes "sessions") 1 8)) (number_rule (codes "count") 0 1000000))
+    (number_rule (codes "seed") 0 18446744073709551615)) frames_rule
+
 -- no command and no program's name: one of the commands below has to follow
 abbrev pub no_command : App
 no_command = record (new_app (codes "ctr")) {
@@ -35,10 +51,11 @@ no_command = record (new_app (codes "ctr")) {
 abbrev pub or_command : App → App → App
 or_command a below = with_subcommand a below.top
 
--- The simple command: `init DIR`, `run DIR [--frames N]` and `report DIR`.
+-- The simple command: `init DIR`, `run DIR [--frames N]`, the load and `report DIR`.
 abbrev pub simple_command : App
-simple_command = or_command (or_command (or_command no_command (over_folder (codes "init")))
-    (with_rule (over_folder (codes "run")) frames_rule)) (over_folder (codes "report"))
+simple_command = or_command (or_command (or_command (or_command no_command
+    (over_folder (codes "init"))) (with_rule (over_folder (codes "run")) frames_rule))
+    load_command) (over_folder (codes "report"))
 
 -- a word that doesn't begin with -
 abbrev pub is_folder : Text → Bool
@@ -59,10 +76,24 @@ number_in text = digits_value 10 (without_leading_plus text)
 abbrev pub frames_asked : List Row → ℕ
 frames_asked rows = option_map_or number_in (one_of (codes "frames") rows) 64
 
+-- the number that the rows have for an option, from one to another; none where they have none
+abbrev pub number_asked : Text → ℕ → ℕ → List Row → Option ℕ
+number_asked name least most rows =
+    option_and_then (λ t. if is_unsigned_in least most t then Some (number_in t) else None)
+    (one_of name rows)
+
+-- The load that the rows ask for, where they have its three numbers; 64 frames where they have none.
+abbrev pub load_asked : List Row → Option Subcommand
+load_asked rows = option_and_then (λ sessions. option_and_then (λ count. option_map (λ seed.
+    asked.Load (unwrap_or (number_asked (codes "frames") 8 4096 rows) 64) sessions count seed)
+    (number_asked (codes "seed") 0 18446744073709551615 rows))
+    (number_asked (codes "count") 0 1000000 rows)) (number_asked (codes "sessions") 1 8 rows)
+
 -- the command of a name, with its rows
 abbrev pub command_named : Text × List Row → Option Subcommand
 command_named met = if bytes_eq met.0 (codes "init") then Some asked.Init
     else if bytes_eq met.0 (codes "run") then Some (asked.Run (frames_asked met.1))
+    else if bytes_eq met.0 (codes "load") then load_asked met.1
     else if bytes_eq met.0 (codes "report") then Some asked.Report else None
 
 -- the command that was met, unless there is a fault of one of these kinds
@@ -81,7 +112,10 @@ command_asked words = if has_folder words
 abbrev pub AsksForNothing : Option Subcommand → WordsError → Type 0
 AsksForNothing asked e = ((e ≡ error.Usage) × (asked ≡ None)) ⊎ (e ≡ error.OutOfMemory)
 
--- A run's frames are 8 to 4,096.
-abbrev pub HasFrames : Subcommand → Type 0
-HasFrames (asked.Run frames) = (8 ≤ frames) × (frames ≤ 4096)
-HasFrames command = ⊤
+-- Frames are 8 to 4,096; a load has 1 to 8 sessions, and no more than 1,000,000 rounds.
+abbrev pub AreInRange : Subcommand → Type 0
+AreInRange (asked.Run frames) = (8 ≤ frames) × (frames ≤ 4096)
+AreInRange (asked.Load frames sessions count seed) = (8 ≤ frames) × (frames ≤ 4096)
+    × (1 ≤ sessions) × (sessions ≤ 8) × (count ≤ 1000000)
+AreInRange asked.Init = ⊤
+AreInRange asked.Report = ⊤

@@ -1,9 +1,11 @@
 // The words of a command line, by the reader of command lines.
-ghost use Rattle.std.specs.Prelude.{◌≡◌, map, true, false, IfOk, IfErr, Some, IfSome, option_and_then};
+ghost use Rattle.std.specs.Prelude.{◌≡◌, map, true, false, IfOk, IfErr, Some, IfSome, codes, nat_le, ◌&&◌, None, if◌then◌else◌, option_and_then};
 ghost use Rattle.std.specs.String.{string_bytes};
 ghost use Rattle.clap.specs.Words.{app_of, found_of, rows_of, rule_of, subcommand_rows_of};
-ghost use Rattle.ctr_words.specs.Words.{frames_rule, simple_command, has_folder, frames_asked, command_named};
-ghost use Rattle.ctr_words.specs.Words.{command_asked, AsksForNothing, HasFrames};
+ghost use Rattle.clap.specs.declared.builder.command.Command.TheViews.{out-Command as fields_of};
+ghost use Rattle.ctr_words.specs.Words.{frames_rule, number_rule, load_command, simple_command, has_folder};
+ghost use Rattle.ctr_words.specs.Words.{number_asked, frames_asked, load_asked, command_named};
+ghost use Rattle.ctr_words.specs.Words.{command_asked, AsksForNothing, AreInRange};
 ghost use Rattle.ctr_words.specs.Read.{is_number, IsRead};
 
 use clap::error::ErrorKind;
@@ -19,10 +21,23 @@ pub enum Subcommand {
     /// Makes the empty database.
     Init,
     /// Runs the script of the source, over a pool of so many frames: 8 to 4,096.
-    Run { frames: u16 },
+    Run {
+        frames: u16,
+    },
+    /// Runs a generated script of so many sessions, 1 to 8, and so many rounds, up to 1,000,000, drawn from a seed, over a pool of so many
+    /// frames: 8 to 4,096.
+    Load {
+        frames: u16,
+        sessions: u8,
+        count: u64,
+        seed: u64,
+    },
     /// Counts what the database holds.
     Report,
 }
+
+/// The most rounds of a generated script.
+const MOST_ROUNDS: u64 = 1_000_000;
 
 /// Why the words ask for nothing.
 #[derive(Clone, Copy, Debug, PartialEq, Eq)]
@@ -33,7 +48,7 @@ pub enum WordsError {
     OutOfMemory,
 }
 
-// The option of a run.
+// The option of a run, and of a load.
 fn frames_option<'a>(alloc: Global) -> Arg<'a>
     ensures { (rule_of result ≡ frames_rule) × (result.global ≡ false) }
 {
@@ -41,6 +56,50 @@ fn frames_option<'a>(alloc: Global) -> Arg<'a>
         .long("frames")
         .action(ArgAction::Set)
         .value_parser(clap::value_parser!(u16).range(8..=4096))
+}
+
+// The number of a load's sessions.
+fn sessions_option<'a>(alloc: Global) -> Arg<'a>
+    ensures { (rule_of result ≡ number_rule (codes "sessions") 1 8) × (result.global ≡ false) }
+{
+    Arg::new(alloc, "sessions")
+        .long("sessions")
+        .required(true)
+        .action(ArgAction::Set)
+        .value_parser(clap::value_parser!(u64).range(1..=8))
+}
+
+// The number of its rounds.
+fn count_option<'a>(alloc: Global) -> Arg<'a>
+    ensures { (rule_of result ≡ number_rule (codes "count") 0 1000000) × (result.global ≡ false) }
+{
+    Arg::new(alloc, "count")
+        .long("count")
+        .required(true)
+        .action(ArgAction::Set)
+        .value_parser(clap::value_parser!(u64).range(0..=1_000_000))
+}
+
+// Its seed.
+fn seed_option<'a>(alloc: Global) -> Arg<'a>
+    ensures { (rule_of result ≡ number_rule (codes "seed") 0 18446744073709551615) × (result.global ≡ false) }
+{
+    Arg::new(alloc, "seed")
+        .long("seed")
+        .required(true)
+        .action(ArgAction::Set)
+        .value_parser(clap::value_parser!(u64))
+}
+
+// The command of a load.
+fn load<'a>(alloc: Global) -> Result<Command<'a>, AllocError>
+    ensures { IfOk result (λ c. (app_of c ≡ load_command) × ((fields_of c).has_globals ≡ false)) }
+{
+    let over = Command::new(alloc, "load").arg(Arg::new(alloc, "DIR").required(true))?;
+    let of_sessions = over.arg(sessions_option(alloc))?;
+    let of_rounds = of_sessions.arg(count_option(alloc))?;
+    let drawn = of_rounds.arg(seed_option(alloc))?;
+    drawn.arg(frames_option(alloc))
 }
 
 // The program's command line.
@@ -56,6 +115,7 @@ fn simple<'a>(alloc: Global) -> Result<Command<'a>, AllocError>
         .subcommand_required(true)
         .subcommand(init)?
         .subcommand(run)?
+        .subcommand(load(alloc)?)?
         .subcommand(report)
 }
 
@@ -76,6 +136,39 @@ fn frames(matches: &ArgMatches<'_>) -> u16
     matches.get_one("frames").unwrap_or(FRAMES)
 }
 
+// A number that lies in a range.
+fn within(number: Option<u64>, least: u64, most: u64) -> Option<u64>
+    ensures { result ≡ option_and_then (λ n. if nat_le least n && nat_le n most then Some n else None) number }
+{
+    match number {
+        Some(n) if least <= n && n <= most => Some(n),
+        _ => None,
+    }
+}
+
+// The number of an option, in a range.
+fn number(matches: &ArgMatches<'_>, name: &str, least: u64, most: u64) -> Option<u64>
+    ensures { result ≡ number_asked name.now least most (rows_of (found_of matches.now)) }
+{
+    within(matches.get_one(name), least, most)
+}
+
+// A load, with its numbers.
+fn load_met(matches: &ArgMatches<'_>) -> Option<Subcommand>
+    ensures { result ≡ load_asked (rows_of (found_of matches.now)) }
+{
+    let sessions = number(matches, "sessions", 1, 8)?;
+    let count = number(matches, "count", 0, MOST_ROUNDS)?;
+    let seed = number(matches, "seed", 0, u64::MAX)?;
+    let frames = number(matches, "frames", 8, 4096).unwrap_or(u64::from(FRAMES));
+    Some(Subcommand::Load {
+        frames: frames as u16,
+        sessions: sessions as u8,
+        count,
+        seed,
+    })
+}
+
 // The command of this name, with its matches.
 fn named(name: &str, matches: &ArgMatches<'_>) -> Option<Subcommand>
     ensures { IsRead (name.now, rows_of (found_of matches.now)) → result ≡ command_named (name.now, rows_of (found_of matches.now)) }
@@ -85,6 +178,7 @@ fn named(name: &str, matches: &ArgMatches<'_>) -> Option<Subcommand>
         "run" => Some(Subcommand::Run {
             frames: frames(matches),
         }),
+        "load" => load_met(matches),
         "report" => Some(Subcommand::Report),
         _ => None,
     }
@@ -115,12 +209,13 @@ fn parse(alloc: Global, words: &[String]) -> Result<Option<Subcommand>, AllocErr
     }
 }
 
-/// What the words behind the program's name ask for: `init DIR`, `run DIR [--frames N]` or `report DIR`.
+/// What the words behind the program's name ask for: `init DIR`, `run DIR [--frames N]`, `load DIR --sessions S --count C --seed X [--frames N]` or
+/// `report DIR`.
 /// Words that are no command are refused with `Usage`.
 pub fn command(alloc: Global, words: &[String]) -> Result<Subcommand, WordsError>
     ensures asked { IfOk result (λ s. command_asked (map string_bytes words.now) ≡ Some s) }
     ensures unasked { IfErr result (AsksForNothing (command_asked (map string_bytes words.now))) }
-    ensures fits { IfOk result HasFrames }
+    ensures fits { IfOk result AreInRange }
 {
     match parse(alloc, words) {
         Ok(Some(subcommand)) => Ok(subcommand),

@@ -39,7 +39,7 @@ none_there : (names : List (List ℕ)) → ((name : List ℕ) → has_name name 
 none_there [] none = refl
 none_there (n ∷ ns) none = absurd (none n (has_itself n ns))
 
-module _ {D B : Type 0} (o : Opening B) (first : Image) (g : Ghosts D) (w : Held D) (kept : Kept o first g w) (over : w.stop ≡ None → IsOver w × (w.running.store.waiting ≡ [])) where
+module _ {D B : Type 0} (o : Opening B) (first : Image) (g : Ghosts D) (w : Held D) (kept : Kept o first g w) (over : w.stop ≡ None → IsOver w) where
   abbrev r : Running D
   r = w.running
 
@@ -61,7 +61,7 @@ module _ {D B : Type 0} (o : Opening B) (first : Image) (g : Ghosts D) (w : Held
     tape = kept.tape;
     whole = λ going. let ready = kept.ready going in
         subst (λ (ls : List Line). IsWhole ls (final ls (at_start o.start [] []) r.sessions.tape.items)) kept.lines_are
-        (whole_from r.sessions r.store.now.counted ready.seats lines_of (over going).0.sessions (at_start o.start [] []) r.sessions.tape.items refl ready.ordered.each);
+        (whole_from r.sessions r.store.now.counted ready.seats lines_of (over going).sessions (at_start o.start [] []) r.sessions.tape.items refl ready.ordered.each);
   }
 
   -- in the words of what is given back
@@ -69,7 +69,7 @@ module _ {D B : Type 0} (o : Opening B) (first : Image) (g : Ghosts D) (w : Held
   in_order_as es d tape_so disk_so = subst (λ (l : List Entry). EndsInOrder o g l w.stop d) (sym tape_so) (subst (λ (x : D). EndsInOrder o g r.sessions.tape.items w.stop x) (sym disk_so) in_order)
 
   -- of a database
-  module _ (s : State) (tells : IsTrue g.tells) (stands : StandsForDatabase first s) (ends : LeavesAtEnd g) where
+  module _ (s : State) (tells : IsTrue g.tells) (stands : StandsForDatabase first s) (ends : LeavesAtEnd g) (none : w.stop ≡ None → w.running.store.waiting ≡ []) where
     module _ (going : w.stop ≡ None) where
       abbrev shows : Shows o first g s r
       shows = kept.shows s tells stands going
@@ -80,7 +80,7 @@ module _ {D B : Type 0} (o : Opening B) (first : Image) (g : Ghosts D) (w : Held
 
       whole_now : IsWhole o.lines (led_to o s shows.mind.tape)
       whole_now = subst (λ (ls : List Line). IsWhole ls (final ls (start_point (start_in o s)) shows.mind.tape)) kept.lines_are
-          (whole_from r.sessions r.store.now.counted (kept.ready going).seats lines_of (over going).0.sessions (start_point (start_in o s)) shows.mind.tape refl
+          (whole_from r.sessions r.store.now.counted (kept.ready going).seats lines_of (over going).sessions (start_point (start_in o s)) shows.mind.tape refl
           (λ q one. subst (λ (ls : List Line). progress_at ls q) (sym kept.lines_are) (shows.shows.each q one).progress))
         where
           progress_at : List Line → ℕ → Type 0
@@ -91,7 +91,7 @@ module _ {D B : Type 0} (o : Opening B) (first : Image) (g : Ghosts D) (w : Held
       stuck_none = sym shows.shows.stuck ∙ none_there r.sessions.stuck (λ name is. false≢true (sym (ap (has_name name) names_none) ∙ (kept.ready going).held.only name is))
         where
           names_none : r.names ≡ []
-          names_none = sym shows.names ∙ ap (names_of_items (area_in r.store.now).title) (over going).0.undo.0
+          names_none = sym shows.names ∙ ap (names_of_items (area_in r.store.now).title) (over going).undo.0
 
       durable_now : (c : Image) → g.since r.store.disk (g.moment_of r.store.disk) c → HasFirstCommits (start_in o s).base (led_to o s shows.mind.tape).state.asked (answers shows.mind.tape) c
       durable_now c left = ends _ shows.mind.tape r.store r.store shows.shows.world.keeps.commits shows.shows.world.keeps.rests c left
@@ -106,12 +106,12 @@ module _ {D B : Type 0} (o : Opening B) (first : Image) (g : Ghosts D) (w : Held
       legal = kept.legal s tells stands;
       undamaged = kept.undamaged s tells stands;
       undone_most = most_so r.size (left_in r.undo) _ (kept.sized s tells stands);
-      undone_all = λ going. undone_so r.size (left_in r.undo) _ (left_none (over going).0.undo) (kept.sized s tells stands);
+      undone_all = λ going. undone_so r.size (left_in r.undo) _ (left_none (over going).undo) (kept.sized s tells stands);
       whole = λ going. subst (λ (es : List Entry). IsWhole o.lines (led_to o s es)) (sym (tape_is going)) (whole_now going);
       no_stuck = λ going. subst (λ (es : List Entry). (led_to o s es).state.stuck ≡ []) (sym (tape_is going)) (stuck_none going);
       survives = survives_by w.stop (λ going. prefix_now o first g s r (kept.shows s tells stands going)) (kept.left s tells stands);
-      full = λ going. full_left o first g s r (kept.shows s tells stands going) (over going).0.undo (over going).1;
-      none_left = λ going. none_left o first g s r (kept.shows s tells stands going) (over going).0.undo (over going).1;
+      full = λ going. full_left o first g s r (kept.shows s tells stands going) (over going).undo (none going);
+      none_left = λ going. none_left o first g s r (kept.shows s tells stands going) (over going).undo (none going);
       durable = λ going. subst (λ (es : List Entry). (c : Image) → g.since r.store.disk (g.moment_of r.store.disk) c → HasFirstCommits (start_in o s).base (led_to o s es).state.asked (answers es) c) (sym (tape_is going)) (durable_now going);
     }
 

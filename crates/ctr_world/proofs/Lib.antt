@@ -7,6 +7,7 @@ mod Leading
 mod Whole
 mod Undoes
 mod Ending
+mod Counting
 mod Undone
 mod Titles
 mod Beside

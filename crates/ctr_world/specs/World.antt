@@ -12,6 +12,7 @@ use Rattle.ctr_types.specs.declared.tape.Act.TheVariants as act
 use Rattle.ctr_types.specs.declared.tape.Entry.{Entry}
 use Rattle.ctr_types.specs.declared.tape.Refusal.TheVariants as refusal
 use Rattle.ctr_types.specs.declared.tape.Reply.TheVariants as reply
+use Rattle.ctr_model.specs.Database.{Database, after_all}
 use Rattle.ctr_model.specs.State.{has_name}
 use Rattle.ctr_model.specs.declared.tape.Point.{Point}
 use Rattle.ctr_model.specs.Tape.{Legal, at_start, final}
@@ -110,6 +111,10 @@ stop_by (Damaged d) = stop.Damaged d
 -- where a tape has led, of a database in this state
 abbrev pub led_to : {B : Type 0} → Opening B → State → List Entry → Point
 led_to o s es = final o.lines (start_point (start_in o s)) es
+
+-- the rows that a tape has led to: those of the start, with all that asked for a commit
+abbrev pub rows_asked : {B : Type 0} → Opening B → State → List Entry → Database
+rows_asked o s es = after_all (led_to o s es).state.asked (led_to o s es).state.base
 
 -- A crash at any moment from the start to now leaves a prefix of the commit order with every commit
 -- that was answered by then, or, before the first entry, what it might have left at the start.

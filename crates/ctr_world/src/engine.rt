@@ -13,7 +13,12 @@ ghost use Rattle.ctr_exec.specs.ctr_session_world.World.{SessionsHeld, InWorld};
 ghost use Rattle.ctr_exec.specs.Order.{IsOrdered};
 ghost use Rattle.ctr_exec.specs.Sessions.{AreAnswers, AreOfTurn, AreSeated, OrFails, turns_left};
 ghost use Rattle.ctr_world.specs.Held.{running};
-ghost use Rattle.ctr_world.specs.World.{HoldsLeft, IsReady, Shows};
+ghost use Rattle.ctr_totals.specs.Totals.{AreTotals};
+ghost use Rattle.ctr_model.specs.Database.{after_all};
+ghost use Rattle.ctr_undo.specs.kept_Turns.{state_now};
+ghost use Rattle.ctr_undo.specs.stops_World.{KeepsWorld};
+ghost use Rattle.ctr_undo.specs.walk_Damage.{ReadsPages};
+ghost use Rattle.ctr_world.specs.World.{HoldsLeft, IsReady, Shows, rows_asked};
 ghost use Rattle.ctr_world.specs.Turns.{HasStatementLeft, AreAnswered, AreBy, AreReleases, AddsEntries, AddsUnlessFails, ComesNearer, FlusherEnds, LetsNameGo};
 
 use crate::laws::undo_leaves_the_sessions;
@@ -27,6 +32,7 @@ use ctr_exec::session_world::pages_that_are_read_keep_a_world;
 use ctr_flush::{FlushTurn, a_sound_state_can_be_listed, turn as flush_store};
 use ctr_store::Store;
 use ctr_tally::Steps;
+use ctr_totals::{Totals, totals};
 use ctr_types::{Name, Turn};
 use ctr_undo::{
     UndoItem, UndoList, UndoTurn, a_name_is_released_with_its_last_item, a_turn_of_undo_is_kept,
@@ -195,6 +201,20 @@ impl<D: Disk, B: Origin + Opening> Engine<D, B> {
         flush(&mut self.store)
     }
 
+    /// The totals of the loaded table. It takes no memory.
+    pub(crate) fn count(&mut self) -> Result<Totals, StoreFault>
+        requires ready { IsReady B.Opening D.Disk (running self.old) }
+        ensures ready { OnOk result (IsReady B.Opening D.Disk (running self.new)) }
+        ensures shows { (s : State) → WhereSound B.first D.Disk (Shows B.Opening B.first D.Disk s (running self.old) → OrFails (Shows B.Opening B.first D.Disk s (running self.new)) result) }
+        ensures counts { (s : State) → WhereSound B.first D.Disk (Shows B.Opening B.first D.Disk s (running self.old)
+            → IfOk result (AreTotals (rows_asked B.Opening s self.old.sessions.tape.items))) }
+        ensures none { WhereSound B.first D.Disk (self.old.store.waiting ≡ [] → OnOk result (self.new.store.waiting ≡ [])) }
+        ensures same { self.new ≡ record self.old { store = self.new.store } }
+        ensures disk { LeavesDisk B.first D.Disk self.old.store self.new.store result }
+    {
+        count_loaded(&mut self.store)
+    }
+
     /// A turn of undo, where this is next: a turn for room, where the store has none, or it is undone. All commits that are durable then are
     /// answered.
     pub(crate) fn undo(&mut self, alloc: Global, next: UndoItem) -> Result<(), StoreFault>
@@ -255,6 +275,19 @@ impl<D: Disk, B: Origin + Opening> Engine<D, B> {
             Err(fault) => Err(fault),
         }
     }
+}
+
+// The totals of the loaded table. In a World nothing changes, and nothing is told.
+fn count_loaded<D: Disk, O: Origin>(store: &mut Store<D, O>) -> Result<Totals, StoreFault>
+    requires going { store.old.stopped ≡ false }
+    ensures kept { (c : Start) (opened : D) (h : SessionsHeld) (w : Mind) → WhereSound O.first D.Disk (InWorld D.Disk c opened store.old h w → OrFails (InWorld D.Disk c opened store.new h w) result) }
+    ensures counts { (c : Start) (opened : D) (w : Mind) → WhereSound O.first D.Disk (KeepsWorld D.Disk c opened store.old w → IfOk result (AreTotals (after_all (state_now c w).asked (state_now c w).base))) }
+    ensures leaves { ReadsPages O.first D.Disk store.old store.new result }
+{
+    pages_that_are_read_keep_a_world::<D>();
+    let counted = totals(store);
+    store.rests();
+    counted
 }
 
 // A turn of the flusher over the store. In a World nothing else changes, and nothing is told.

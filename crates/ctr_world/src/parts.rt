@@ -5,6 +5,8 @@ ghost use Rattle.ctr_types.specs.declared.tape.Turn.TheVariants.{Went, Stopped};
 ghost use Rattle.ctr_exec.specs.Sessions.{turns_left};
 ghost use Rattle.ctr_world.specs.Held.{held};
 ghost use Rattle.ctr_world.specs.World.{Kept, stop_by};
+ghost use Rattle.ctr_base.specs.Base.{WhereSound};
+ghost use Rattle.ctr_world.specs.Counted.{TotalsAre};
 ghost use Rattle.ctr_world.specs.Turns.{EndsTurn, FinishesBy, HasStatementLeft, IsOver, TakesFirst};
 
 use crate::engine::Engine;
@@ -13,6 +15,7 @@ use crate::opening::Opening;
 use ctr_base::Origin;
 use ctr_disk::{Disk, Stop, StoreFault};
 use ctr_exec::session_world::a_turn_that_ends_leaves_a_prefix;
+use ctr_totals::Totals;
 use ctr_types::{Actor, Turn};
 use std::alloc::Global;
 
@@ -208,16 +211,55 @@ impl<D: Disk, B: Origin + Opening> Parts<D, B> {
         }
     }
 
-    /// Goes on until all statements are finished and nothing is left of undo, and makes that durable; or until the World stops. One that is
-    /// stopped is left as it is.
-    pub(crate) fn finish(&mut self, alloc: Global)
+    // The totals of the loaded table, where nothing has stopped the World.
+    fn count(&mut self) -> Totals
         requires kept { Kept B.Opening B.first D.Disk (held self.old) }
         ensures kept { Kept B.Opening B.first D.Disk (held self.new) }
-        ensures over { self.new.stop ≡ None → IsOver (held self.new) × (self.new.engine.store.waiting ≡ []) }
+        ensures over { IsOver (held self.old) → IsOver (held self.new) }
+        ensures none { WhereSound B.first D.Disk (self.old.engine.store.waiting ≡ [] → self.new.stop ≡ None → self.new.engine.store.waiting ≡ []) }
+        ensures counts { TotalsAre B.Opening B.first D.Disk true (held self.new) result }
+        ensures tape { self.new.engine.sessions.tape.items ≡ self.old.engine.sessions.tape.items }
+        ensures stopped { self.old.stop ≢ None → self.new ≡ self.old }
+    {
+        if self.stop.is_some() {
+            return Totals::NONE;
+        }
+        a_turn_that_ends_leaves_a_prefix::<D>();
+        match self.engine.count() {
+            Ok(totals) => totals,
+            Err(fault) => {
+                self.stop = Some(stop_by(fault));
+                Totals::NONE
+            }
+        }
+    }
+
+    // That, where it is asked for.
+    fn count_if(&mut self, totals: bool) -> Totals
+        requires kept { Kept B.Opening B.first D.Disk (held self.old) }
+        ensures kept { Kept B.Opening B.first D.Disk (held self.new) }
+        ensures over { IsOver (held self.old) → IsOver (held self.new) }
+        ensures none { WhereSound B.first D.Disk (self.old.engine.store.waiting ≡ [] → self.new.stop ≡ None → self.new.engine.store.waiting ≡ []) }
+        ensures counts { TotalsAre B.Opening B.first D.Disk totals (held self.new) result }
+        ensures tape { self.new.engine.sessions.tape.items ≡ self.old.engine.sessions.tape.items }
+        ensures stopped { self.old.stop ≢ None → self.new ≡ self.old }
+    {
+        if totals { self.count() } else { Totals::NONE }
+    }
+
+    /// Goes on until all statements are finished and nothing is left of undo, and makes that durable; or until the World stops. One that is
+    /// stopped is left as it is. Then it counts the rows of the loaded table, where that is asked for.
+    pub(crate) fn finish(&mut self, alloc: Global, totals: bool) -> Totals
+        requires kept { Kept B.Opening B.first D.Disk (held self.old) }
+        ensures kept { Kept B.Opening B.first D.Disk (held self.new) }
+        ensures over { self.new.stop ≡ None → IsOver (held self.new) }
+        ensures none { WhereSound B.first D.Disk (self.new.stop ≡ None → self.new.engine.store.waiting ≡ []) }
+        ensures counts { TotalsAre B.Opening B.first D.Disk totals (held self.new) result }
         ensures turns { FinishesBy D.Disk (held self.old) (held self.new).running.sessions.tape.items }
         ensures stopped { self.old.stop ≢ None → self.new ≡ self.old }
     {
         self.run(alloc);
         self.settle();
+        self.count_if(totals)
     }
 }

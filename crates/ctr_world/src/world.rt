@@ -13,6 +13,7 @@ ghost use Rattle.ctr_exec.specs.Runners.{AreRunners, runner_at};
 ghost use Rattle.ctr_world.specs.Opened.{IsOpenedOn, CanRun};
 ghost use Rattle.ctr_world.specs.World.{IsTapeOf, StopsBy};
 ghost use Rattle.ctr_world.specs.Turns.{HasStatementLeft, EndsTurn, FinishesBy};
+ghost use Rattle.ctr_world.specs.Counted.{CountsLoaded};
 ghost use Rattle.ctr_world.specs.Ended.{Ends, EndsInOrder, IsUnbegunWorld, PassesOpening, RefusesWith, RefusesWorld};
 
 use crate::beginning::begin;
@@ -25,6 +26,7 @@ use ctr_exec::session_world::pages_that_are_read_keep_a_world;
 use ctr_exec::{Sessions, a_script_begins_in_a_world};
 use ctr_log::OpenError;
 use ctr_store::Store;
+use ctr_totals::Totals;
 use ctr_types::{Actor, Entry, List, Script, Tape, Turn};
 use ctr_undo::{a_call_that_ends_leaves_a_prefix, a_world_begins};
 use std::alloc::Global;
@@ -57,6 +59,8 @@ pub struct Finished<D> {
     pub stop: Option<Stop>,
     /// How many turns undo took.
     pub undone: usize,
+    /// The rows of the loaded table, and the sum of its second column; both 0 where they weren't asked for, or it stopped.
+    pub totals: Totals,
     /// The disk that it was opened on.
     pub disk: D,
 }
@@ -163,8 +167,9 @@ impl<D: Disk, B: Origin + Opening> World<D, B> {
     }
 
     /// Steps each session whose statements aren't finished, in order of number, until they are, and then undo until nothing is left of it, and
-    /// makes all durable; or until the World stops. One that is stopped is left as it is.
-    pub fn finish(self, alloc: Global) -> Finished<D>
+    /// makes all durable; or until the World stops. One that is stopped is left as it is. Then, where that is asked for, the rows of the loaded
+    /// table are counted, and the sum of its second column, which takes no memory.
+    pub fn finish(self, alloc: Global, totals: bool) -> Finished<D>
         // Of a database that the first image stands for, what its tape and its undo are, and what a crash leaves.
         ensures ends { (s : State) → IsTrue D.tells → StandsForDatabase B.first s → Ends B.Opening D.Disk s result.tape.entries result.stop result.undone result.disk }
         // Whatever the disk tells, the tape stands in the order of the script.
@@ -173,16 +178,17 @@ impl<D: Disk, B: Origin + Opening> World<D, B> {
             × (result.undone ≡ self.running.size - left_in self.running.undo) × (result.disk ≡ self.running.store.disk) }
         // It goes by turns, each of the first session that has a statement left, or of undo where none has; each adds its entries at its own end.
         ensures turns { FinishesBy D.Disk self result.tape.entries }
-        ensures later { B.start ≤ D.moment_of result.disk }
+        // What was counted: of a database that the first image stands for, where nothing stopped the World, the totals of all that asked for a commit.
+        ensures counts { CountsLoaded B.Opening B.first D.Disk totals result }
         // A fault is the cause of a stop or none was met.
         ensures stops { StopsBy result.stop B.faults (D.faults_of result.disk) }
-        ensures faults { B.faults ≤ D.faults_of result.disk }
+        ensures forward { (B.start ≤ D.moment_of result.disk) × (B.faults ≤ D.faults_of result.disk) }
         ensures worn { (lsn : ℕ) → result.stop ≡ Some (Worn lsn) → 2 ^ 63 - 1 ≤ lsn }
     {
         a_call_that_ends_leaves_a_prefix::<D>();
         let World { parts } = self;
         let mut parts = parts;
-        parts.finish(alloc);
+        let totals = parts.finish(alloc, totals);
         let Parts { engine, stop } = parts;
         let Engine {
             store,
@@ -199,6 +205,7 @@ impl<D: Disk, B: Origin + Opening> World<D, B> {
             },
             stop,
             undone,
+            totals,
             disk: store.into_disk(),
         }
     }

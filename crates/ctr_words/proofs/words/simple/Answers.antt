@@ -36,4 +36,5 @@ returns c =
     ∙ ap (λ (a : App). record a { top = record a.top { no_binary_name = true; subcommand_required = true } }) c.new-7.ensures.app in
     let first = c.in_ok-subcommand.ensures.shape local_1 ∙ ap₂ with_subcommand none (ap top init) in
     let second = c.in_ok-subcommand-2.ensures.shape local_2 ∙ ap₂ with_subcommand first (ap top run) in
-    IfOk-weaker c.subcommand-3.result _ _ (λ made adds. adds.shape local_3 ∙ ap₂ with_subcommand second (ap top report)) c.subcommand-3.ensures
+    let third = c.in_ok-subcommand-3.ensures.shape c.in_ok-load.ensures.1 ∙ ap₂ with_subcommand second (ap top c.in_ok-load.ensures.0) in
+    IfOk-weaker c.subcommand-4.result _ _ (λ made adds. adds.shape local_3 ∙ ap₂ with_subcommand third (ap top report)) c.subcommand-4.ensures

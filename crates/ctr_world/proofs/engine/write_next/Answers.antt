@@ -1,5 +1,4 @@
 use Rattle.std.proofs.Common.{◌∙◌, ap}
-use Rattle.ctr_meta.specs.Tables.{Tables}
 use Rattle.ctr_undo.specs.page_turns_Turns.{RestsBehind}
 use Rattle.ctr_store.specs.Checkpoints.{checkpoint_need}
 use Rattle.ctr_exec.specs.ctr_session_world.World.{InWorld}

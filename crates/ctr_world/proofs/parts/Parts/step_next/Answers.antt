@@ -1,7 +1,6 @@
 use Rattle.std.proofs.Common.{refl, subst, arith}
 use Rattle.ctr_types.specs.declared.tape.Actor.TheVariants as who
 use Rattle.ctr_types.specs.declared.tape.Turn.{Turn}
-use Rattle.ctr_types.specs.declared.tape.Turn.TheVariants.{Went}
 use Rattle.ctr_world.specs.Held.{held}
 use Rattle.ctr_world.specs.Turns.{EndsTurn}
 use Rattle.ctr_world.proofs.Adding.{turn_adds_none}

@@ -1,0 +1,10 @@
+pub mod Known
+pub mod Left
+pub mod Titled
+pub mod Seen
+pub mod Rows
+pub mod Named
+pub mod Few
+pub mod Going
+pub mod Counted
+pub mod Totalled
