@@ -1,5 +1,5 @@
 -- What is read of a slot, and what its record is to a turn.
-use Rattle.std.proofs.Common.{◌≡◌, ℕ, inl, inr, Bool, true, false, List, Some, Result, Ok, Err, refl, sym, ap}
+use Rattle.std.proofs.Common.{◌≡◌, ℕ, inl, inr, Bool, true, false, List, Result, Ok, Err, refl, sym, ap}
 use Rattle.std.specs.Prelude.{⊤, ◌&&◌, nat_lt}
 use Rattle.ctr_bytes.specs.Following.{◌>>=◌}
 use Rattle.ctr_disk.specs.declared.disk.Disk.{Ghosts}

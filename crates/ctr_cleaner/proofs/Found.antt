@@ -39,10 +39,12 @@ use Rattle.ctr_cursor.specs.Standing.{IsPosition, TakesPage}
 use Rattle.ctr_cursor.proofs.Stays.{free_none, no_chain}
 use Rattle.ctr_meta.specs.Kept.{TablesKept}
 use Rattle.ctr_cleaner.specs.declared.done.MayEmpty.{MayEmpty}
+use Rattle.ctr_cleaner.specs.declared.done.CleanTurn.{CleanTurn}
+use Rattle.ctr_cleaner.specs.declared.done.CleanTurn.TheVariants as turn
 use Rattle.ctr_cleaner.specs.declared.done.Logged.{Logged}
 use Rattle.ctr_cleaner.specs.declared.done.Logged.TheVariants.{Cleaned, Unlinked, Reclaimed}
 use Rattle.ctr_cleaner.specs.Finding.{IsFreeRow, HasNothingAt, HasNothingInSlot}
-use Rattle.ctr_cleaner.specs.Turning.{Heeded, heeding, IsOfOpenRow, CleansFreely, TurnsAt, next_cleaned, LeavesRoomBy, IsWithin}
+use Rattle.ctr_cleaner.specs.Turning.{Heeded, heeding, IsToldBy, IsOfOpenRow, CleansFreely, TurnsAt, next_cleaned, LeavesRoomBy, IsWithin}
 use Rattle.ctr_cleaner.specs.Parts.{Done, next_done, LeavesRoom, IsLetGo, turn_logged, DidAt, HasNoRowsToGo, HasNoEntryToFree, KeySaid, OpenSaid, OpenOlderSaid, done_step, done_reclaim, done_freed, done_unlinked}
 
 -- everything may be done in a table that is dead
@@ -87,11 +89,12 @@ pub err_told : (P : StoreFault → Type 0) (r told : Result Done StoreFault) (e 
 err_told P r told e is same holds = subst (λ (q : Result Done StoreFault). IfErr q P) (sym is ∙ same) holds
 
 -- a step is one of the cleaner's, whose row isn't locked by the name of its table either
-freely : (low : ℕ) (locks : Locks) (spared : ℕ) (may : MayEmpty) (x : Position) (s t : State) (one : CleansOne low locks s t) (a : Action) → one.action ≡ a → IsOfOpenRow locks a (site_of s)
+freely : (low : ℕ) (locks : Locks) (spared : ℕ) (may : MayEmpty) (x : Position) (turn : CleanTurn) (s t : State) (one : CleansOne low locks s t) (a : Action) → IsToldBy turn a → one.action ≡ a → IsOfOpenRow locks a (site_of s)
     → ((p : ℕ) → a ≡ Reclaims p → IsAmong (FreeOf p) (drop spared s.tables.items)) → ((e : ℕ) (title : Title) (left : Area) → a ≡ FreesEntry e title left → may.free ≡ true)
-    → (TakesPage a x → ⊥) → CleansFreely (heeding low locks spared may) x s t
-freely low locks spared may x s t one a is free spares frees stays = record {
+    → (TakesPage a x → ⊥) → CleansFreely (heeding low locks spared may) x turn s t
+freely low locks spared may x turn s t one a told is free spares frees stays = record {
   action = a;
+  told = told;
   cleaning = subst (λ (b : Action). IsCleaning (passes_below low s.tables) b (site_of s)) is one.cleaning;
   free = free;
   spares = spares;
@@ -104,7 +107,7 @@ freely low locks spared may x s t one a is free spares frees stays = record {
 
 pub forgets : (low : ℕ) (locks : Locks) (spared n : ℕ) (may : MayEmpty) (s t : State) (r : Result Step StoreFault) → IfOk r (ForgetsAt low locks n s t)
     → IfOk (done_step r) (DidAt (heeding low locks spared may) (Aborted n) (HasNoForget n s.tables) s t)
-forgets low locks spared n may s t (Ok step.Cleaned) (one, (x, there, is)) = freely low locks spared may (Aborted n) s t one (Forgets x) is tt (λ p same. absurd cc) (λ f title left same. absurd cc) (λ takes. takes)
+forgets low locks spared n may s t (Ok step.Cleaned) (one, (x, there, is)) = freely low locks spared may (Aborted n) turn.Cleaned s t one (Forgets x) tt is tt (λ p same. absurd cc) (λ f title left same. absurd cc) (λ takes. takes)
 forgets low locks spared n may s t (Ok step.Nothing) did = did
 forgets low locks spared n may s t (Err e) did = tt
 
@@ -121,7 +124,7 @@ page_same m n same = cc
 pub reclaims : (low : ℕ) (locks : Locks) (spared : ℕ) (may : MayEmpty) (x : Position) (s t : State) (r : Result Step StoreFault) → IfOk r (ReclaimsOne low locks spared s t)
     → IfOk (done_reclaim r) (DidAt (heeding low locks spared may) x (HasNoFree spared s.tables) s t)
 reclaims low locks spared may x s t (Ok step.Cleaned) (one, (p, is, among)) =
-    freely low locks spared may x s t one (Reclaims p) is tt (λ q same. subst (λ n. IsAmong (FreeOf n) (drop spared s.tables.items)) (page_same p q same) among) (λ f title left same. absurd cc) (stays p x)
+    freely low locks spared may x turn.Reclaimed s t one (Reclaims p) tt is tt (λ q same. subst (λ n. IsAmong (FreeOf n) (drop spared s.tables.items)) (page_same p q same) among) (λ f title left same. absurd cc) (stays p x)
 reclaims low locks spared may x s t (Ok step.Nothing) did = did
 reclaims low locks spared may x s t (Err e) did = tt
 
@@ -129,25 +132,25 @@ reclaims low locks spared may x s t (Err e) did = tt
 
 pub dies : (low : ℕ) (locks : Locks) (spared e : ℕ) (may : MayEmpty) (s t : State) (r : Result Step StoreFault) → IfOk r (MakesDeadAt low locks e s t)
     → IfOk (done_step r) (DidAt (heeding low locks spared may) (Entry e) (OwesDying low e s → ⊥) s t)
-dies low locks spared e may s t (Ok step.Cleaned) (one, is) = freely low locks spared may (Entry e) s t one (MakesDead (passes_below low s.tables) e) is tt (λ p same. absurd cc) (λ f title left same. absurd cc) (λ takes. takes)
+dies low locks spared e may s t (Ok step.Cleaned) (one, is) = freely low locks spared may (Entry e) turn.Cleaned s t one (MakesDead (passes_below low s.tables) e) tt is tt (λ p same. absurd cc) (λ f title left same. absurd cc) (λ takes. takes)
 dies low locks spared e may s t (Ok step.Nothing) did = did
 dies low locks spared e may s t (Err e2) did = tt
 
 pub unlinks_rows : (h : Heeded) (e b : ℕ) (s t : State) (r : Result Emptied StoreFault) → ((area_in s).title e).state ≡ 2 → IfOk r (UnlinksRowsAt e b s t)
     → IfOk (done_unlinked r) (DidAt h (Entry e) ((p : ℕ) → OwedByUnlink s.tables (area_in s) p e b → ⊥) s t)
-unlinks_rows h e b s t (Ok emptied.OneRecord) dead (p, acts) = record { action = Unlinks p e b; cleaning = dead; free = tt; spares = λ q same. absurd cc; frees = λ f title left same. absurd cc; stays = λ takes. takes; acts = acts }
+unlinks_rows h e b s t (Ok emptied.OneRecord) dead (p, acts) = record { action = Unlinks p e b; told = tt; cleaning = dead; free = tt; spares = λ q same. absurd cc; frees = λ f title left same. absurd cc; stays = λ takes. takes; acts = acts }
 unlinks_rows h e b s t (Ok emptied.Nothing) dead did = did
 unlinks_rows h e b s t (Err e2) dead did = tt
 
 pub unlinks_versions : (h : Heeded) (e : ℕ) (s t : State) (r : Result Emptied StoreFault) → ((area_in s).title e).state ≡ 2 → IfOk r (UnlinksVersionsAt e s t)
     → IfOk (done_unlinked r) (DidAt h (Entry e) (HasNoRows (area_in s) e → (p : ℕ) → OwedByOlderUnlink (area_in s) p e → ⊥) s t)
-unlinks_versions h e s t (Ok emptied.OneRecord) dead (p, none, acts) = record { action = UnlinksOlder p e; cleaning = dead; free = tt; spares = λ q same. absurd cc; frees = λ f title left same. absurd cc; stays = λ takes. takes; acts = acts }
+unlinks_versions h e s t (Ok emptied.OneRecord) dead (p, none, acts) = record { action = UnlinksOlder p e; told = tt; cleaning = dead; free = tt; spares = λ q same. absurd cc; frees = λ f title left same. absurd cc; stays = λ takes. takes; acts = acts }
 unlinks_versions h e s t (Ok emptied.Nothing) dead did = did
 unlinks_versions h e s t (Err e2) dead did = tt
 
 pub frees_entry : (h : Heeded) (e : ℕ) (s t : State) (r : Result Emptied StoreFault) → h.may.free ≡ true → IfOk r (FreesEntryAt e s t)
     → IfOk (done_freed r) (DidAt h (Entry e) (HasNoEntryToFree e s) s t)
-frees_entry h e s t (Ok emptied.OneRecord) lets (closed, acts) = record { action = _; cleaning = tt; free = tt; spares = λ q same. absurd cc; frees = λ f title left same. lets; stays = λ takes. takes; acts = acts }
+frees_entry h e s t (Ok emptied.OneRecord) lets (closed, acts) = record { action = _; told = tt; cleaning = tt; free = tt; spares = λ q same. absurd cc; frees = λ f title left same. lets; stays = λ takes. takes; acts = acts }
 frees_entry h e s t (Ok emptied.Nothing) lets did = did
 frees_entry h e s t (Err e2) lets did = tt
 
@@ -245,19 +248,19 @@ module _ (low : ℕ) (locks : Locks) (spared : ℕ) (may : MayEmpty) (e b : ℕ)
   pub cleans_slot : (r : Result Step StoreFault) → IfOk r (CleansSlot low locks e at s t)
       → IfOk (done_step r) (DidAt (heeding low locks spared may) (Slot e b at) (HasNoRevert locks e at s × HasNoTrim low locks e at s) s t)
   cleans_slot (Ok step.Cleaned) (one, is) = ⊎_elim
-      (λ reverts. freely low locks spared may (Slot e b at) s t one (Reverts e at reverts.0) reverts.1 unlocked.1 (λ p same. absurd cc) (λ f title left same. absurd cc) (λ takes. takes))
-      (λ trims. freely low locks spared may (Slot e b at) s t one (Trims trims.0 e at trims.1) trims.2 unlocked.1 (λ p same. absurd cc) (λ f title left same. absurd cc) (λ takes. takes))
+      (λ reverts. freely low locks spared may (Slot e b at) turn.Cleaned s t one (Reverts e at reverts.0) tt reverts.1 unlocked.1 (λ p same. absurd cc) (λ f title left same. absurd cc) (λ takes. takes))
+      (λ trims. freely low locks spared may (Slot e b at) turn.Cleaned s t one (Trims trims.0 e at trims.1) tt trims.2 unlocked.1 (λ p same. absurd cc) (λ f title left same. absurd cc) (λ takes. takes))
       (done_at e at one.action is)
   cleans_slot (Ok step.Nothing) did = (did.0, (did.1, did.2))
   cleans_slot (Err e2) did = tt
 
   pub cuts_slot : (r : Result Step StoreFault) → IfOk r (CutsAt low locks e at s t) → IfOk (done_step r) (DidAt (heeding low locks spared may) (Slot e b at) (HasNoCut low locks e at s) s t)
-  cuts_slot (Ok step.Cleaned) (one, (q, is)) = freely low locks spared may (Slot e b at) s t one (Cuts (passes_below low s.tables) e at q) is unlocked.1 (λ p same. absurd cc) (λ f title left same. absurd cc) (λ takes. takes)
+  cuts_slot (Ok step.Cleaned) (one, (q, is)) = freely low locks spared may (Slot e b at) turn.Cleaned s t one (Cuts (passes_below low s.tables) e at q) tt is unlocked.1 (λ p same. absurd cc) (λ f title left same. absurd cc) (λ takes. takes)
   cuts_slot (Ok step.Nothing) did = did
   cuts_slot (Err e2) did = tt
 
   pub reverts_slot : (r : Result Step StoreFault) → IfOk r (RevertsAt low locks e at s t) → IfOk (done_step r) (DidAt (heeding low locks spared may) (Slot e b at) (HasNoRevert locks e at s) s t)
-  reverts_slot (Ok step.Cleaned) (one, (way, is)) = freely low locks spared may (Slot e b at) s t one (Reverts e at way) is unlocked.1 (λ p same. absurd cc) (λ f title left same. absurd cc) (λ takes. takes)
+  reverts_slot (Ok step.Cleaned) (one, (way, is)) = freely low locks spared may (Slot e b at) turn.Cleaned s t one (Reverts e at way) tt is unlocked.1 (λ p same. absurd cc) (λ f title left same. absurd cc) (λ takes. takes)
   reverts_slot (Ok step.Nothing) did = did
   reverts_slot (Err e2) did = tt
 
@@ -275,7 +278,7 @@ module _ (low : ℕ) (locks : Locks) (e : ℕ) (at : Place) (s : State) where
 
 pub frees_older : (low : ℕ) (locks : Locks) (spared e : ℕ) (may : MayEmpty) (q : Place) (s t : State) → KeySaid locks e ((area_in s).older q).key s true → (r : Result Step StoreFault)
     → IfOk r (FreesAt low locks e q s t) → IfOk (done_step r) (DidAt (heeding low locks spared may) (Kept e q) (HasNothingAt (IsFreeRow locks s) low (Kept e q) s) s t)
-frees_older low locks spared e may q s t unlocked (Ok step.Cleaned) (one, is) = freely low locks spared may (Kept e q) s t one (FreesOlder e q) is unlocked.1 (λ p same. absurd cc) (λ f title left same. absurd cc) (λ takes. takes)
+frees_older low locks spared e may q s t unlocked (Ok step.Cleaned) (one, is) = freely low locks spared may (Kept e q) turn.Cleaned s t one (FreesOlder e q) tt is unlocked.1 (λ p same. absurd cc) (λ f title left same. absurd cc) (λ takes. takes)
 frees_older low locks spared e may q s t unlocked (Ok step.Nothing) (same, none) = (same, λ live free loose. none unlocked.0 loose)
 frees_older low locks spared e may q s t unlocked (Err e2) did = tt
 

@@ -62,10 +62,16 @@ pub record Tries {D : Type 0} (may : Bool) (first : Image) (g : Ghosts D) (a b :
   pub counted : OnOk result (b.now.counted ≡ a.now.counted)
   pub lets : IfOk result (IsLetGo may)
 
+-- what a turn did that logged a record
+abbrev pub turn_logged : Logged → CleanTurn
+turn_logged Cleaned = turn.Cleaned
+turn_logged Unlinked = turn.Unlinked
+turn_logged Reclaimed = turn.Reclaimed
+
 -- What a part did at a position: a record was logged; or nothing, and this holds.
 abbrev pub DidAt : Heeded → Position → Type 0 → State → State → Done → Type 0
 DidAt h x Found s t None = (t ≡ s) × Found
-DidAt h x Found s t (Some logged) = CleansFreely h x s t
+DidAt h x Found s t (Some logged) = CleansFreely h x (turn_logged logged) s t
 
 -- What holds where a whole turn finds nothing to do: no page waits to be free again, and there is
 -- nothing at the position, where everything may be done in a table that is dead.
@@ -120,12 +126,6 @@ pub record IsOpenSlot (locks : Locks) (e : ℕ) (at : Place) (s : State) : Type 
   pub unlocked : KeySaid locks e ((area_in s).slot at).key s true
 
 -- ---- in words of a turn
-
--- what a turn did that logged a record
-abbrev pub turn_logged : Logged → CleanTurn
-turn_logged Cleaned = turn.Cleaned
-turn_logged Unlinked = turn.Unlinked
-turn_logged Reclaimed = turn.Reclaimed
 
 -- of a step at a place
 abbrev pub done_step : Result Step StoreFault → Result Done StoreFault

@@ -6,7 +6,7 @@ use Rattle.ctr_area.specs.Areas.{Title, Area}
 use Rattle.ctr_area.specs.Sound.{IsAmong}
 use Rattle.ctr_redo.specs.States.{State}
 use Rattle.ctr_actions.specs.Sites.{Site, site_of}
-use Rattle.ctr_actions.specs.Actions.{Action, Reverts, Trims, Cuts, FreesOlder, FreesEntry, Reclaims}
+use Rattle.ctr_actions.specs.Actions.{Action, Reverts, Trims, Cuts, FreesOlder, FreesEntry, Reclaims, Unlinks, UnlinksOlder}
 use Rattle.ctr_actions.specs.Cleaning.{IsCleaning}
 use Rattle.ctr_page_turns.specs.Acts.{ActsBy}
 use Rattle.ctr_page_turns.specs.Rooms.{AddsItems}
@@ -51,18 +51,33 @@ IsOfOpenRow locks (Cuts passes e at q) s =
 IsOfOpenRow locks (FreesOlder e q) s = IsUnlockedAs (names_of s.area) locks e (s.area.older q).key
 IsOfOpenRow locks a s = Unit {0}
 
+-- An action is what a turn says of it: a page leaves its chain, or one is free again, or neither.
+abbrev pub IsToldBy : CleanTurn → Action → Type 0
+IsToldBy Unlinked (Unlinks p e b) = Unit {0}
+IsToldBy Unlinked (UnlinksOlder p e) = Unit {0}
+IsToldBy Unlinked a = ⊥
+IsToldBy Reclaimed (Reclaims p) = Unit {0}
+IsToldBy Reclaimed a = ⊥
+IsToldBy turn (Unlinks p e b) = ⊥
+IsToldBy turn (UnlinksOlder p e) = ⊥
+IsToldBy turn (Reclaims p) = ⊥
+IsToldBy turn a = Unit {0}
+
 -- A state is left by an action of the cleaner's for nobody, which owes nothing more in the one
--- before. Its row isn't locked; a page that is given back is that of an item behind undo's; an entry
--- is freed only where it may; and the position's page stays in its chain.
-pub record CleansFreely (h : Heeded) (x : Position) (s t : State) : Type 0 where
-  pub action : Action
-  pub cleaning : IsCleaning (passes_below h.low s.tables) action (site_of s)
-  pub free : IsOfOpenRow h.locks action (site_of s)
-  pub spares : (p : ℕ) → action ≡ Reclaims p → IsAmong (FreeOf p) (drop h.spared s.tables.items)
-  pub frees : (e : ℕ) (title : Title) (left : Area) → action ≡ FreesEntry e title left
-      → h.may.free ≡ true
-  pub stays : TakesPage action x → ⊥
-  pub acts : ActsBy s.tables.next action s t
+-- before, and is what the turn says. Its row isn't locked; a page that is given back is that of an
+-- item behind undo's; an entry is freed only where it may; and the position's page stays in its
+-- chain.
+pub record CleansFreely (h : Heeded) (x : Position) (turn : CleanTurn) (s t : State) : Type 0
+  where
+    pub action : Action
+    pub told : IsToldBy turn action
+    pub cleaning : IsCleaning (passes_below h.low s.tables) action (site_of s)
+    pub free : IsOfOpenRow h.locks action (site_of s)
+    pub spares : (p : ℕ) → action ≡ Reclaims p → IsAmong (FreeOf p) (drop h.spared s.tables.items)
+    pub frees : (e : ℕ) (title : Title) (left : Area) → action ≡ FreesEntry e title left
+        → h.may.free ≡ true
+    pub stays : TakesPage action x → ⊥
+    pub acts : ActsBy s.tables.next action s t
 
 -- The state is as it was. No page waits to be free again but undo's. There is nothing to do at the
 -- position, which is said only where everything may be done in a table that is dead. And this is
@@ -75,9 +90,9 @@ pub record PassesBy (h : Heeded) (x : Position) (y : Option Position) (s t : Sta
 
 -- What a turn did at its position.
 abbrev pub TurnsAt : Heeded → Position → State → State → CleanTurn → Type 0
-TurnsAt h x s t Cleaned = CleansFreely h x s t
-TurnsAt h x s t Unlinked = CleansFreely h x s t
-TurnsAt h x s t Reclaimed = CleansFreely h x s t
+TurnsAt h x s t Cleaned = CleansFreely h x Cleaned s t
+TurnsAt h x s t Unlinked = CleansFreely h x Unlinked s t
+TurnsAt h x s t Reclaimed = CleansFreely h x Reclaimed s t
 TurnsAt h x s t (Moved y) = PassesBy h x (Some y) s t
 TurnsAt h x s t Over = PassesBy h x None s t
 
