@@ -27,7 +27,7 @@ use Rattle.ctr_actions.specs.Sites.{site_of}
 use Rattle.ctr_walk.specs.record_effects_States.{pages_in, area_in}
 use Rattle.ctr_walk.specs.record_effects_Standing.{IsDatabaseState}
 use Rattle.ctr_walk.specs.Tables.{first_of_chain}
-use Rattle.ctr_undamaged.proofs.Inside.{table_inside, on_bucket, on_versions}
+use Rattle.ctr_reading.proofs.undamaged_Inside.{table_inside, on_bucket, on_versions}
 use Rattle.ctr_reading.proofs.Gathers.{eight_buckets}
 use Rattle.ctr_cursor.specs.declared.position.Position.{Position}
 use Rattle.ctr_cursor.specs.declared.position.Position.TheVariants.{Entry, Slot, Kept, Aborted}

@@ -5,3 +5,5 @@ pub mod OnPages
 pub mod Advances
 pub mod Rooms
 pub mod Leads
+pub use Rattle.ctr_reading.proofs.Told as reading_Told
+pub use Rattle.ctr_reading.proofs.Gathers as reading_Gathers

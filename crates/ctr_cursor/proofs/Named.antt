@@ -23,7 +23,7 @@ use Rattle.ctr_record_laws.proofs.Owned.{in_all}
 use Rattle.ctr_walk.specs.redo_States.{State}
 use Rattle.ctr_walk.specs.record_effects_States.{pages_in, area_in}
 use Rattle.ctr_walk.specs.record_effects_Standing.{IsDatabaseState}
-use Rattle.ctr_undamaged.proofs.Inside.{table_inside}
+use Rattle.ctr_reading.proofs.undamaged_Inside.{table_inside}
 use Rattle.ctr_cursor.specs.Standing.{IsInChain, IsOfChain, is_item_of}
 use Rattle.ctr_cursor.proofs.Stays.{is_there, of_table}
 

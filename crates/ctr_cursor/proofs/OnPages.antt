@@ -24,11 +24,11 @@ use Rattle.ctr_walk.specs.record_effects_Standing.{IsDatabaseState}
 use Rattle.ctr_walk.specs.declared.table.TableOf.{TableOf}
 use Rattle.ctr_walk.specs.Damage.{EndsOnPage, EndsTold}
 use Rattle.ctr_walk.specs.Tables.{kinds_said}
-use Rattle.ctr_views.specs.pvs_Table.{table_check, TableSaid}
-use Rattle.ctr_views.proofs.pvs_Told.{page_of_table}
-use Rattle.ctr_views.proofs.passed_Pagewise.{page_by_page}
-use Rattle.ctr_undamaged.proofs.Inside.{table_inside, on_versions}
-use Rattle.ctr_undamaged.proofs.There.{table_passes}
+use Rattle.ctr_reading.specs.pvs_Table.{table_check, TableSaid}
+use Rattle.ctr_reading.proofs.pvs_Told.{page_of_table}
+use Rattle.ctr_reading.proofs.passed_Pagewise.{page_by_page}
+use Rattle.ctr_reading.proofs.undamaged_Inside.{table_inside, on_versions}
+use Rattle.ctr_reading.proofs.undamaged_There.{table_passes}
 use Rattle.ctr_reading.specs.Gathering.{NextSaid}
 use Rattle.ctr_reading.proofs.Places.{page_header, page_table}
 use Rattle.ctr_cursor.specs.Standing.{IsInChain}

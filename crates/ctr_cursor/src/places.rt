@@ -8,15 +8,14 @@ ghost use Rattle.ctr_walk.specs.record_effects_States.{pages_in, area_in};
 ghost use Rattle.ctr_walk.specs.record_effects_Standing.{IsDatabaseState};
 ghost use Rattle.ctr_walk.specs.Damage.{damage_told, EndsTold, ReadsPages};
 ghost use Rattle.ctr_walk.specs.Tables.{IsChain, first_of_chain};
-ghost use Rattle.ctr_views.specs.pvs_Table.{TableFits, TableSaid};
+ghost use Rattle.ctr_reading.specs.pvs_Table.{TableFits, TableSaid};
 ghost use Rattle.ctr_cursor.specs.Pass.{first_on as first_place_on, place_behind as place_next};
 ghost use Rattle.ctr_cursor.specs.Standing.{IsInChain};
 
 use ctr_disk::{Disk, StoreFault};
 use ctr_page::{Chain, PageKind, Place, kept_size, kinds_width, room_for, slot_size};
-use ctr_reading::next_page;
+use ctr_reading::{next_page, table_on};
 use ctr_rec::PageNo;
-use ctr_views::table_on;
 use ctr_walk::{Origin, Store, TableOf, first_page, tell};
 
 /// The kind of the pages of a chain.

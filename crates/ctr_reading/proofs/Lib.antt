@@ -10,3 +10,6 @@ pub use Rattle.ctr_undamaged.proofs.heap_Made as heap_Made
 pub use Rattle.ctr_walk.proofs.Damages as walk_Damages
 pub use Rattle.ctr_walk.proofs.Joins as walk_Joins
 pub use Rattle.ctr_views.proofs.Scanning as views_Scanning
+pub use Rattle.ctr_views.proofs.pvs_Told as pvs_Told
+pub use Rattle.ctr_views.proofs.passed_Pagewise as passed_Pagewise
+pub use Rattle.ctr_undamaged.proofs.Inside as undamaged_Inside

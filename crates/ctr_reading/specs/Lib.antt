@@ -11,3 +11,7 @@ pub use Rattle.ctr_views.specs.actions_Sites as actions_Sites
 pub use Rattle.ctr_walk.specs.Damage as walk_Damage
 pub use Rattle.ctr_views.specs.actions_Actions as actions_Actions
 pub use Rattle.ctr_views.specs.catalog_Finding as catalog_Finding
+pub use Rattle.ctr_views.specs.pvs_Table as pvs_Table
+pub use Rattle.ctr_undamaged.specs.pvs_Slots as pvs_Slots
+pub use Rattle.ctr_undamaged.specs.chain_Seeking as chain_Seeking
+pub use Rattle.ctr_undamaged.specs.Undamaged as undamaged_Undamaged

@@ -15,9 +15,9 @@ use Rattle.ctr_store.specs.Store.{View, LeavesFront, LeavesPage}
 use Rattle.ctr_walk.specs.Damage.{EndsTold, ReadsPages}
 use Rattle.ctr_walk.proofs.Damages.{reads_err}
 use Rattle.ctr_pvs.specs.Slots.{SlotSaidAt}
-use Rattle.ctr_undamaged.specs.chain_Seeking.{entries_on, sought_in, sought_at, xids_found}
-use Rattle.ctr_undamaged.specs.Undamaged.{MeetsNoDamage}
-use Rattle.ctr_reading.proofs.Told.{undamaged}
+use Rattle.ctr_cursor.specs.chain_Seeking.{entries_on, sought_in, sought_at, xids_found}
+use Rattle.ctr_cursor.specs.undamaged_Undamaged.{MeetsNoDamage}
+use Rattle.ctr_cursor.proofs.reading_Told.{undamaged}
 
 -- where a search through the versions of the row at a place meets no damage, its slot is read without
 slot_meets : (counted : ℕ) (pages : ℕ → List ℕ) (at : Place) → MeetsNoDamage (λ r. r ≡ xids_found (sought_at (λ x. false) counted pages at)) → MeetsNoDamage (SlotSaidAt counted pages at)

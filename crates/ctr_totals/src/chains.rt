@@ -17,7 +17,7 @@ use ctr_base::Origin;
 use ctr_disk::{Disk, StoreFault};
 use ctr_page::Place;
 use ctr_store::Store;
-use ctr_undamaged::a_place_of_a_table_fits;
+use ctr_cursor::a_place_of_a_table_fits;
 
 /// As many version entries as stand on all pages that can be counted: no chain has more.
 const MOST_OLDER: u32 = 5_100_000;

@@ -4,7 +4,7 @@ ghost use Rattle.std.specs.Int.{w64, cast_signed};
 ghost use Rattle.ctr_bytes.specs.Fields.{field};
 ghost use Rattle.ctr_load.specs.Statements.{load_columns};
 ghost use Rattle.ctr_area.specs.Reading.{version_said, slot_said, older_said};
-ghost use Rattle.ctr_undamaged.specs.pvs_Slots.{part_lent, slot_lent};
+ghost use Rattle.ctr_cursor.specs.pvs_Slots.{part_lent, slot_lent};
 ghost use Rattle.ctr_pvs.specs.Lending.{entry_lent};
 ghost use Rattle.ctr_passed.specs.Logged.{IsSlotOf, IsOlderOf};
 ghost use Rattle.ctr_meta.specs.Tables.{Tables};

@@ -17,7 +17,7 @@ use ctr_disk::{Disk, StoreFault};
 use ctr_page::Place;
 use ctr_pvs::{row, version};
 use ctr_store::Store;
-use ctr_undamaged::{a_row_is_read_without_damage, a_version_entry_is_read_without_damage};
+use ctr_cursor::{a_row_is_read_without_damage, a_version_entry_is_read_without_damage};
 
 /// What there is to know of the slot at a place.
 pub(crate) fn look_slot<D: Disk, O: Origin>(

@@ -4,7 +4,7 @@ use Rattle.ctr_walk.specs.record_effects_States.{pages_in}
 use Rattle.ctr_walk.specs.Damage.{damage_told, EndsTold}
 use Rattle.ctr_walk.specs.declared.table.TableOf.{TableOf}
 use Rattle.ctr_walk.proofs.Damages.{reads_err}
-use Rattle.ctr_views.specs.pvs_Table.{TableSaid}
+use Rattle.ctr_reading.specs.pvs_Table.{TableSaid}
 use Rattle.ctr_cursor.proofs.OnPages.{room_is, table_undamaged}
 use Rattle.ctr_cursor.proofs.places.room_on.Goals as goal
 

@@ -1,7 +1,7 @@
 use Rattle.ctr_walk.specs.record_effects_States.{pages_in}
 use Rattle.ctr_walk.specs.Damage.{damage_told}
 use Rattle.ctr_walk.proofs.Damages.{told_ends}
-use Rattle.ctr_views.specs.pvs_Table.{TableSaid}
+use Rattle.ctr_reading.specs.pvs_Table.{TableSaid}
 use Rattle.ctr_cursor.proofs.places.table_told.Goals as goal
 
 pub returns-clause-ends : goal.returns-clause-ends

@@ -2,7 +2,7 @@ use Rattle.std.proofs.Common.{sym, ◌∙◌, ap, subst}
 use Rattle.ctr_page.specs.Reading.{header_in}
 use Rattle.ctr_walk.proofs.Limits.{in_limit}
 use Rattle.ctr_walk.specs.record_effects_States.{pages_in}
-use Rattle.ctr_views.proofs.pvs_Told.{header_here}
+use Rattle.ctr_reading.proofs.pvs_Told.{header_here}
 use Rattle.ctr_cursor.specs.Standing.{IsOfChain}
 use Rattle.ctr_cursor.proofs.there.is_headed.Goals as goal
 

@@ -12,7 +12,7 @@ use Rattle.ctr_area.specs.Sound.{IsAmong, IsKeptFor}
 use Rattle.ctr_record_effects.specs.States.{area_in}
 use Rattle.ctr_record_effects.specs.Standing.{IsDatabaseState}
 use Rattle.ctr_walk.proofs.Damages.{reads_err}
-use Rattle.ctr_reading.proofs.Told.{reads_behind}
+use Rattle.ctr_cursor.proofs.reading_Told.{reads_behind}
 use Rattle.ctr_totals.specs.Facts.{number_along, IsKnownSlot, IsSeenIn}
 use Rattle.ctr_totals.proofs.Seen.{in_slot, behind_slot}
 use Rattle.ctr_totals.proofs.chains.seen_at.Given.{Over}

@@ -11,8 +11,8 @@ use Rattle.ctr_record_effects.specs.States.{pages_in, area_in}
 use Rattle.ctr_record_effects.specs.Standing.{IsDatabaseState}
 use Rattle.ctr_actions.specs.Sites.{site_of}
 use Rattle.ctr_walk.proofs.Damages.{reads_err}
-use Rattle.ctr_reading.proofs.Gathers.{eight_buckets}
-use Rattle.ctr_reading.proofs.Told.{reads_behind}
+use Rattle.ctr_cursor.proofs.reading_Gathers.{eight_buckets}
+use Rattle.ctr_cursor.proofs.reading_Told.{reads_behind}
 use Rattle.ctr_cursor.specs.declared.position.Position.{Position}
 use Rattle.ctr_cursor.specs.declared.position.Position.TheVariants.{Entry}
 use Rattle.ctr_cursor.specs.Pass.{next_position}

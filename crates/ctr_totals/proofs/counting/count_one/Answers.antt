@@ -3,7 +3,7 @@ use Rattle.ctr_walk.specs.redo_States.{State}
 use Rattle.ctr_actions.specs.Sites.{site_of}
 use Rattle.ctr_walk.proofs.Damages.{reads_err}
 use Rattle.ctr_walk.proofs.Joins.{answers_ok}
-use Rattle.ctr_reading.proofs.Told.{reads_behind}
+use Rattle.ctr_cursor.proofs.reading_Told.{reads_behind}
 use Rattle.ctr_cursor.specs.declared.position.Position.{Position}
 use Rattle.ctr_cursor.specs.declared.position.Position.TheVariants.{Slot}
 use Rattle.ctr_cursor.specs.Pass.{next_position}

@@ -7,7 +7,7 @@ use Rattle.ctr_record_effects.specs.States.{area_in}
 use Rattle.ctr_record_effects.specs.Standing.{IsDatabaseState}
 use Rattle.ctr_walk.proofs.Damages.{reads_err}
 use Rattle.ctr_walk.proofs.PagesRead.{still_goes, same_now, was_read}
-use Rattle.ctr_reading.proofs.Told.{reads_further, told_ok}
+use Rattle.ctr_cursor.proofs.reading_Told.{reads_further, told_ok}
 use Rattle.ctr_totals.specs.Finding.{IsLoad, TellsLoad}
 use Rattle.ctr_totals.proofs.finding.find.Goals as goal
 

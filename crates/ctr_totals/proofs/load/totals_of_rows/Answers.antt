@@ -10,7 +10,7 @@ use Rattle.ctr_record_effects.specs.States.{pages_in, area_in}
 use Rattle.ctr_record_effects.specs.Standing.{IsDatabaseState}
 use Rattle.ctr_walk.proofs.Damages.{reads_err}
 use Rattle.ctr_walk.proofs.Joins.{answers_ok}
-use Rattle.ctr_reading.proofs.Told.{reads_behind, ok_so}
+use Rattle.ctr_cursor.proofs.reading_Told.{reads_behind, ok_so}
 use Rattle.ctr_stops.specs.Fronts.{rows_of_state}
 use Rattle.ctr_totals.specs.declared.counting.Totals.{Totals}
 use Rattle.ctr_totals.specs.Totals.{no_totals, AreTotals}

@@ -10,7 +10,7 @@ use Rattle.ctr_passed.specs.Logged.{IsOlderOf}
 use Rattle.ctr_pvs.specs.Lending.{entry_lent, VersionSaidAt}
 use Rattle.ctr_walk.specs.Damage.{damage_told}
 use Rattle.ctr_pvs.specs.declared.lending.LentVersion.{LentVersion}
-use Rattle.ctr_reading.proofs.Told.{undamaged}
+use Rattle.ctr_cursor.proofs.reading_Told.{undamaged}
 use Rattle.ctr_totals.specs.Facts.{IsKnownOlder}
 use Rattle.ctr_totals.proofs.Left.{reads_fault}
 use Rattle.ctr_totals.proofs.looking.look_older.Goals as goal
