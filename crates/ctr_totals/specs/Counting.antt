@@ -20,12 +20,13 @@ abbrev pub AddsTo : Option ℤ → Totals → Totals → Type 0
 AddsTo number old new =
     (new.rows ≡ old.rows + one_row number) × (new.sum ≡ old.sum +ℤ one_number number)
 
--- the rows of slots at these places, and the sum of their numbers
+-- how many rows the slots at these places have
 abbrev pub rows_along : (ℕ → Bool) → Area → List Place → ℕ
 rows_along test area [] = 0
 rows_along test area (at ∷ places) =
     one_row (number_at test area at) + rows_along test area places
 
+-- the sum of their numbers
 abbrev pub sum_along : (ℕ → Bool) → Area → List Place → ℤ
 sum_along test area [] = pos 0
 sum_along test area (at ∷ places) =
