@@ -16,7 +16,7 @@ use Rattle.ctr_redo.specs.home_Writing.{IsOldOrNewValue, with_body, OthersStay}
 use Rattle.ctr_redo.specs.log_Logs.{Log, Batches, HasLog, GoesOn, batches, records}
 use Rattle.ctr_redo.specs.log_Reading.{log_file}
 use Rattle.ctr_redo.specs.log_Kept.{kept_log, other_file, IsDropped, HoldsLog, StartsAt, WritesBy, WritesBehind}
-use Rattle.ctr_redo.proofs.log_KeptLaws.{front_same}
+use Rattle.ctr_redo.specs.log_KeptLaws.{front_same}
 use Rattle.ctr_redo.specs.rec_Record.{Record}
 use Rattle.ctr_redo.specs.ctr_pool.Pages.{PageHeld}
 use Rattle.ctr_redo.specs.ctr_pool.Below.{PutsPage, HoldsStill}

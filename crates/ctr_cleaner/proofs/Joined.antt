@@ -25,7 +25,8 @@ use Rattle.ctr_emptying.specs.declared.emptied.Emptied.{Emptied}
 use Rattle.ctr_emptying.specs.declared.emptied.Emptied.TheVariants as emptied
 use Rattle.ctr_emptying.specs.Emptying.{next_emptied}
 use Rattle.ctr_cleaner.specs.declared.done.Logged.TheVariants.{Cleaned, Unlinked, Reclaimed}
-use Rattle.ctr_cleaner.specs.Parts.{Done, next_done, LeavesRoom, IsLetGo, Tries, HasRoomFor, done_step, done_reclaim, done_freed, done_unlinked}
+use Rattle.ctr_cleaner.specs.Turning.{HasRoomFor}
+use Rattle.ctr_cleaner.specs.Parts.{Done, next_done, LeavesRoom, IsLetGo, Tries, done_step, done_reclaim, done_freed, done_unlinked}
 
 -- ---- numbers
 

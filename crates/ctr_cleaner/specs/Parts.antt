@@ -1,5 +1,5 @@
 -- What a part of a turn did. For inside.
-use Rattle.std.specs.Prelude.{◌≡◌, ◌≤◌, ℕ, ◌+◌, ℤ, Bool, true, false, length, Option, None, Some, Result, Ok, Err, IfOk, OnOk}
+use Rattle.std.specs.Prelude.{◌≡◌, ℕ, ◌+◌, ℤ, Bool, true, false, length, Option, None, Some, Result, Ok, Err, IfOk, OnOk}
 use Rattle.ctr_disk.specs.Image.{Image}
 use Rattle.ctr_disk.specs.declared.disk.Disk.{Ghosts}
 use Rattle.ctr_disk.specs.declared.fault.StoreFault.{StoreFault}
@@ -11,7 +11,6 @@ use Rattle.ctr_redo.specs.States.{State}
 use Rattle.ctr_record_effects.specs.States.{area_in}
 use Rattle.ctr_record_laws.specs.Owed.{OwedByUnlink, OwedByOlderUnlink, OwedByFreeing}
 use Rattle.ctr_store.specs.Store.{View}
-use Rattle.ctr_walk.specs.OneRecord.{HasRoomForOne}
 use Rattle.ctr_page_turns.specs.Rooms.{AddsItems}
 use Rattle.ctr_page_turns.specs.Turns.{Turns}
 use Rattle.ctr_cleaning.specs.Sparing.{IsUnlockedAs}
@@ -78,11 +77,6 @@ DidAt h x Found s t (Some logged) = CleansFreely h x (turn_logged logged) s t
 abbrev pub IsPassed : Heeded → Position → State → Type 0
 IsPassed h x s = HasNoFree h.spared s.tables
     × (MayAll h.may → HasNothingAt (IsFreeRow h.locks s) h.low x s)
-
--- There is room for a record, and for an item where a page may leave its chain.
-pub record HasRoomFor {D : Type 0} (may_unlink : Bool) (v : View D) : Type 0 where
-  pub one : HasRoomForOne 0 0 v
-  pub item : may_unlink ≡ true → 1 ≤ v.meta.items_room
 
 -- ---- in a table that is dead
 

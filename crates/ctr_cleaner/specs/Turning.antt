@@ -1,5 +1,5 @@
 -- What a turn of the cleaner did.
-use Rattle.std.specs.Prelude.{◌≡◌, ℕ, ◌+◌, Bool, true, drop, length, Option, Some, None}
+use Rattle.std.specs.Prelude.{◌≡◌, ◌≤◌, ℕ, ◌+◌, Bool, true, drop, length, Option, Some, None}
 use Rattle.ctr_rec.specs.declared.record.SlogItem.TheVariants.{FreeOf}
 use Rattle.ctr_meta.specs.Kept.{TablesKept}
 use Rattle.ctr_area.specs.Areas.{Title, Area}
@@ -8,6 +8,8 @@ use Rattle.ctr_redo.specs.States.{State}
 use Rattle.ctr_actions.specs.Sites.{Site, site_of}
 use Rattle.ctr_actions.specs.Actions.{Action, Reverts, Trims, Cuts, FreesOlder, FreesEntry, Reclaims, Unlinks, UnlinksOlder}
 use Rattle.ctr_actions.specs.Cleaning.{IsCleaning}
+use Rattle.ctr_store.specs.Store.{View}
+use Rattle.ctr_walk.specs.OneRecord.{HasRoomForOne}
 use Rattle.ctr_page_turns.specs.Acts.{ActsBy}
 use Rattle.ctr_page_turns.specs.Rooms.{AddsItems}
 use Rattle.ctr_cleaning.specs.Sparing.{IsUnlockedAs}
@@ -118,3 +120,16 @@ abbrev pub IsWithin : Bool → ℕ → CleanTurn → Type 0
 IsWithin may_unlink counted Unlinked = may_unlink ≡ true
 IsWithin may_unlink counted (Moved y) = IsCountedPosition counted y
 IsWithin may_unlink counted turn = Unit {0}
+
+-- There is room for a record, and for an item of the secondary log where a page may leave its chain.
+pub record HasRoomFor {D : Type 0} (may_unlink : Bool) (v : View D) : Type 0 where
+  pub one : HasRoomForOne 0 0 v
+  pub item : may_unlink ≡ true → 1 ≤ v.meta.items_room
+
+-- What a turn leaves of a store's counts: the log's next number, the room of the tables, and as many
+-- pages, within which is what it names.
+pub record LeavesCounts {D : Type 0} (may : MayEmpty) (a b : View D) (t : CleanTurn) : Type 0 where
+  pub numbers : b.next ≡ next_cleaned t a.next
+  pub room : LeavesRoomBy t a.meta b.meta
+  pub counted : b.now.counted ≡ a.now.counted
+  pub within : IsWithin may.unlink b.now.counted t

@@ -7,8 +7,8 @@ ghost use Rattle.ctr_record_effects.specs.Standing.{IsDatabaseState};
 ghost use Rattle.ctr_walk.specs.OneRecord.{HasRoomForOne};
 ghost use Rattle.ctr_cursor.specs.declared.position.Position.TheVariants.{Entry};
 ghost use Rattle.ctr_cleaner.specs.Finding.{HasNothingInDead};
-ghost use Rattle.ctr_cleaner.specs.Turning.{Heeded, MayAll};
-ghost use Rattle.ctr_cleaner.specs.Parts.{Tries, DidAt, HasRoomFor, HasNoRowsToGo, HasNoPageToGo, HasNoEntryToFree};
+ghost use Rattle.ctr_cleaner.specs.Turning.{Heeded, MayAll, HasRoomFor};
+ghost use Rattle.ctr_cleaner.specs.Parts.{Tries, DidAt, HasNoRowsToGo, HasNoPageToGo, HasNoEntryToFree};
 
 use crate::done::{Done, MayEmpty, freed, unlinked};
 use crate::going::{a_part_goes_on, a_step_is_a_part};

@@ -7,8 +7,8 @@ ghost use Rattle.ctr_record_effects.specs.Standing.{IsDatabaseState};
 ghost use Rattle.ctr_clean.specs.Steps.{Locks};
 ghost use Rattle.ctr_cursor.specs.declared.position.Position.TheVariants.{Entry};
 ghost use Rattle.ctr_cleaner.specs.Finding.{IsFreeRow, HasNothingAt, HasNothingInDead};
-ghost use Rattle.ctr_cleaner.specs.Turning.{Heeded, MayAll, heeding};
-ghost use Rattle.ctr_cleaner.specs.Parts.{Tries, DidAt, HasRoomFor};
+ghost use Rattle.ctr_cleaner.specs.Turning.{Heeded, MayAll, heeding, HasRoomFor};
+ghost use Rattle.ctr_cleaner.specs.Parts.{Tries, DidAt};
 
 use crate::done::{Done, MayEmpty, stepped};
 use crate::emptying::empty_entry;

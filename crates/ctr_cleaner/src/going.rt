@@ -13,7 +13,8 @@ ghost use Rattle.ctr_clean.specs.Steps.{next_stepped};
 ghost use Rattle.ctr_clean.specs.Lists.{TakesItem};
 ghost use Rattle.ctr_emptying.specs.declared.emptied.Emptied.{Emptied as EmptiedOf};
 ghost use Rattle.ctr_emptying.specs.Emptying.{next_emptied};
-ghost use Rattle.ctr_cleaner.specs.Parts.{Done as DoneOf, Tries, HasRoomFor, done_step, done_reclaim, done_freed, done_unlinked};
+ghost use Rattle.ctr_cleaner.specs.Turning.{HasRoomFor};
+ghost use Rattle.ctr_cleaner.specs.Parts.{Done as DoneOf, Tries, done_step, done_reclaim, done_freed, done_unlinked};
 
 use crate::done::Done;
 use ctr_disk::Disk;

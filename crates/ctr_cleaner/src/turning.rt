@@ -1,15 +1,14 @@
 // A turn of the cleaner.
-ghost use Rattle.std.specs.Prelude.{◌≡◌, ◌≤◌, ℕ, true, IfOk, IfErr, OnOk};
+ghost use Rattle.std.specs.Prelude.{◌≡◌, ℕ, IfOk, IfErr};
 ghost use Rattle.ctr_disk.specs.declared.fault.StoreFault.TheVariants.{Fault};
 ghost use Rattle.ctr_base.specs.Base.{WhereSound};
 ghost use Rattle.ctr_record_effects.specs.Standing.{IsDatabaseState};
 ghost use Rattle.ctr_actions.specs.Sites.{site_of};
-ghost use Rattle.ctr_walk.specs.OneRecord.{HasRoomForOne};
 ghost use Rattle.ctr_page_turns.specs.Turns.{Turns};
 ghost use Rattle.ctr_cursor.specs.Standing.{IsPosition, IsCountedPosition};
 ghost use Rattle.ctr_cleaner.specs.Finding.{IsFreeRow, HasNothingAt};
-ghost use Rattle.ctr_cleaner.specs.Turning.{heeding, MayAll, TurnsAt, next_cleaned, LeavesRoomBy, IsWithin};
-ghost use Rattle.ctr_cleaner.specs.Parts.{Tries, DidAt, IsPassed, HasRoomFor};
+ghost use Rattle.ctr_cleaner.specs.Turning.{heeding, MayAll, TurnsAt, HasRoomFor, LeavesCounts};
+ghost use Rattle.ctr_cleaner.specs.Parts.{Tries, DidAt, IsPassed};
 
 use crate::done::{CleanTurn, Done, MayEmpty, reclaimed, stepped, told};
 use crate::entries::clean_entry;
@@ -91,17 +90,13 @@ pub fn turn<D: Disk, O: Origin>(
     at: Position,
 ) -> Result<CleanTurn, StoreFault>
     // There is room for a record, and for an item of the secondary log where a page may leave its chain.
-    requires room { HasRoomForOne 0 0 store.old }
-    requires item { may.unlink ≡ true → 1 ≤ store.old.meta.items_room }
+    requires room { HasRoomFor may.unlink store.old }
     requires within { IsCountedPosition store.old.now.counted at }
     // It logs one record, or reads pages.
     ensures turns { Turns O.first D.Disk store.old store.new result }
-    ensures numbers { IfOk result (λ t. store.new.next ≡ next_cleaned t store.old.next) }
-    // An item is added where a page left its chain, and one is gone where a page is free again; as many pages are counted.
-    ensures left { IfOk result (λ t. LeavesRoomBy t store.old.meta store.new.meta) }
-    ensures counted { OnOk result (store.new.now.counted ≡ store.old.now.counted) }
-    // A page leaves its chain only where it may; and a pass moves to what is there.
-    ensures within { IfOk result (IsWithin may.unlink store.new.now.counted) }
+    // An item is added where a page left its chain, which it does only where it may, and one is gone where a page is free again. As many pages are counted, and
+    // a pass moves to what is there.
+    ensures counts { IfOk result (LeavesCounts may store.old store.new) }
     // That is an action of the cleaner's, which owes nothing more; or there is none at the position, and this is the one behind it.
     ensures cleans { WhereSound O.first D.Disk (IsDatabaseState store.old.now → IsPosition at (site_of store.old.now)
         → IfOk result (TurnsAt (heeding low locks.now spared may) at store.old.now store.new.now)) }

@@ -2,7 +2,7 @@
 use Rattle.std.specs.Prelude.{◌≡◌, ℕ, Bool, true}
 use Rattle.ctr_redo.specs.States.{State}
 use Rattle.ctr_actions.specs.Sites.{site_of}
-use Rattle.ctr_cleaner.specs.Turning.{Heeded, TurnsAt, IsWithin}
+use Rattle.ctr_cleaner.specs.Turning.{Heeded, TurnsAt}
 use Rattle.ctr_cursor.specs.declared.position.Position.{Position}
 use Rattle.ctr_cursor.specs.Standing.{IsPosition, IsCountedPosition}
 use Rattle.ctr_pass.specs.declared.going.Went.{Went}
@@ -11,8 +11,7 @@ use Rattle.ctr_pass.specs.declared.going.Went.{Went}
 abbrev pub WentAs : Heeded → State → State → Went → Type 0
 WentAs h s t w = IsPosition w.from (site_of s) × TurnsAt h w.from s t w.did
 
--- The position at which a turn is taken is the one that was given, where that stayed; and what is named
--- by a turn is there.
-abbrev pub IsWithinBy : Bool → Bool → ℕ → Position → Went → Type 0
-IsWithinBy stayed may_unlink counted at w = (stayed ≡ true → w.from ≡ at)
-    × IsCountedPosition counted w.from × IsWithin may_unlink counted w.did
+-- The position at which a turn is taken is the one that was given, where that stayed; and what it names is
+-- there.
+abbrev pub IsFrom : Bool → ℕ → Position → Went → Type 0
+IsFrom stayed counted at w = (stayed ≡ true → w.from ≡ at) × IsCountedPosition counted w.from

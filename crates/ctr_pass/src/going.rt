@@ -1,16 +1,15 @@
 // A turn of the cleaner beside sessions.
-ghost use Rattle.std.specs.Prelude.{◌≡◌, ◌≤◌, true, false, IfErr, IfOk, OnOk};
+ghost use Rattle.std.specs.Prelude.{◌≡◌, true, false, IfErr, IfOk};
 ghost use Rattle.ctr_disk.specs.declared.fault.StoreFault.TheVariants.{Fault};
 ghost use Rattle.ctr_base.specs.Base.{WhereSound};
 ghost use Rattle.ctr_record_effects.specs.Standing.{IsDatabaseState};
 ghost use Rattle.ctr_actions.specs.Sites.{site_of};
-ghost use Rattle.ctr_walk.specs.OneRecord.{HasRoomForOne};
 ghost use Rattle.ctr_walk.specs.Damage.{ReadsPages};
 ghost use Rattle.ctr_page_turns.specs.Turns.{Turns};
 ghost use Rattle.ctr_cursor.specs.Standing.{IsPosition, IsCountedPosition};
-ghost use Rattle.ctr_cleaner.specs.Turning.{heeding, LeavesRoomBy, next_cleaned};
+ghost use Rattle.ctr_cleaner.specs.Turning.{heeding, HasRoomFor, LeavesCounts};
 ghost use Rattle.ctr_pass.specs.Beside.{entry_first};
-ghost use Rattle.ctr_pass.specs.Going.{IsWithinBy, WentAs};
+ghost use Rattle.ctr_pass.specs.Going.{IsFrom, WentAs};
 
 use ctr_base::Origin;
 use ctr_cleaner::{CleanTurn, MayEmpty, turn};
@@ -73,15 +72,13 @@ pub fn clean_from<D: Disk, O: Origin>(
     at: Position,
     stayed: bool,
 ) -> Result<Went, StoreFault>
-    requires room { HasRoomForOne 0 0 store.old }
-    requires item { may.unlink ≡ true → 1 ≤ store.old.meta.items_room }
+    // There is room for a record, and for an item of the secondary log where a page may leave its chain.
+    requires room { HasRoomFor may.unlink store.old }
     requires within { IsCountedPosition store.old.now.counted at }
     // It logs one record, or reads pages.
     ensures turns { Turns O.first D.Disk store.old store.new result }
-    ensures numbers { IfOk result (λ w. store.new.next ≡ next_cleaned w.did store.old.next) }
-    ensures left { IfOk result (λ w. LeavesRoomBy w.did store.old.meta store.new.meta) }
-    ensures counted { OnOk result (store.new.now.counted ≡ store.old.now.counted) }
-    ensures within { IfOk result (IsWithinBy stayed may.unlink store.new.now.counted at) }
+    ensures counts { IfOk result (λ w. LeavesCounts may store.old store.new w.did) }
+    ensures from { IfOk result (IsFrom stayed store.new.now.counted at) }
     // It is taken at a position of the state, and is an action of the cleaner's there, or there is none.
     ensures cleans { WhereSound O.first D.Disk (IsDatabaseState store.old.now → (stayed ≡ true → IsPosition at (site_of store.old.now))
         → IfOk result (WentAs (heeding low locks.now spared may) store.old.now store.new.now)) }

@@ -29,3 +29,4 @@ pub use Rattle.ctr_log.specs.declared.reading.ReadError as log_ReadError
 pub use Rattle.ctr_log.specs.declared.visitor.Visit as log_Visit
 pub use Rattle.ctr_log.specs.declared.visitor.VisitError as log_VisitError
 pub use Rattle.ctr_log.specs.ctr_home as ctr_home
+pub use Rattle.ctr_log.proofs.KeptLaws as log_KeptLaws

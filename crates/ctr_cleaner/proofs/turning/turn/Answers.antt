@@ -39,10 +39,12 @@ returns-in-Ok-Some g c =
     let so = sym c.told.ensures in
     record {
       turns = c.a_turn_goes_on.ensures.answered first old mid (Some logged) c.told.result part.turns;
-      numbers = subst (λ (t : CleanTurn). mid.next ≡ next_cleaned t old.next) so (told_numbers old.next mid.next logged part.numbers);
-      left = subst (λ (t : CleanTurn). LeavesRoomBy t old.meta mid.meta) so (told_left old.meta mid.meta logged part.left);
-      counted = part.counted;
-      within = subst (λ (t : CleanTurn). IsWithin c.args.may.unlink mid.now.counted t) so (told_within c.args.may.unlink mid.now.counted logged part.lets);
+      counts = record {
+        numbers = subst (λ (t : CleanTurn). mid.next ≡ next_cleaned t old.next) so (told_numbers old.next mid.next logged part.numbers);
+        room = subst (λ (t : CleanTurn). LeavesRoomBy t old.meta mid.meta) so (told_left old.meta mid.meta logged part.left);
+        counted = part.counted;
+        within = subst (λ (t : CleanTurn). IsWithin c.args.may.unlink mid.now.counted t) so (told_within c.args.may.unlink mid.now.counted logged part.lets);
+      };
       cleans = λ told sound database its. subst (λ (t : CleanTurn). TurnsAt h x s mid.now t) so
           (told_did h x (IsPassed h x s) s mid.now logged (ok_told (DidAt h x (IsPassed h x s) s mid.now) r r (Some logged) refl is (c.clean_first.ensures.cleans told sound database its)));
       refused = λ told sound database its. tt;
@@ -88,10 +90,12 @@ returns-in-Ok-None-advance g c =
     let leaves = moved.ensures.leaves in
     record {
       turns = c.a_turn_goes_on.ensures.behind first old mid c.advance.new.store None (Ok Over) page (Reads (answers_ok first g.D.Disk moved.field-0 Over mid c.advance.new.store leaves));
-      numbers = leaves.keeps.next ∙ part.numbers;
-      left = subst (λ (m : TablesKept). AddsItems 0 old.meta m) (sym leaves.keeps.meta) part.left;
-      counted = leaves.keeps.counted ∙ part.counted;
-      within = tt;
+      counts = record {
+        numbers = leaves.keeps.next ∙ part.numbers;
+        room = subst (λ (m : TablesKept). AddsItems 0 old.meta m) (sym leaves.keeps.meta) part.left;
+        counted = leaves.keeps.counted ∙ part.counted;
+        within = tt;
+      };
       cleans = λ told sound database its.
           let did = ok_told (DidAt h x (IsPassed h x s) s mid.now) r r None refl is (c.clean_first.ensures.cleans told sound database its) in
           let next = subst (λ (u : State). moved.field-0 ≡ next_position (site_of u) x) did.0 (moved.ensures.next told sound) in
@@ -115,10 +119,12 @@ returns-in-Ok-Some-advance g c =
     let leaves = moved.ensures.leaves in
     record {
       turns = c.a_turn_goes_on.ensures.behind first old mid c.advance.new.store None (Ok (Moved moved.to)) page (Reads (answers_ok first g.D.Disk moved.field-0 (Moved moved.to) mid c.advance.new.store leaves));
-      numbers = leaves.keeps.next ∙ part.numbers;
-      left = subst (λ (m : TablesKept). AddsItems 0 old.meta m) (sym leaves.keeps.meta) part.left;
-      counted = leaves.keeps.counted ∙ part.counted;
-      within = subst (λ n. IsCountedPosition n moved.to) (sym leaves.keeps.counted) (subst (λ (o : Option Position). IfSome o (IsCountedPosition mid.now.counted)) moved.field-0-is moved.ensures.inside);
+      counts = record {
+        numbers = leaves.keeps.next ∙ part.numbers;
+        room = subst (λ (m : TablesKept). AddsItems 0 old.meta m) (sym leaves.keeps.meta) part.left;
+        counted = leaves.keeps.counted ∙ part.counted;
+        within = subst (λ n. IsCountedPosition n moved.to) (sym leaves.keeps.counted) (subst (λ (o : Option Position). IfSome o (IsCountedPosition mid.now.counted)) moved.field-0-is moved.ensures.inside);
+      };
       cleans = λ told sound database its.
           let did = ok_told (DidAt h x (IsPassed h x s) s mid.now) r r None refl is (c.clean_first.ensures.cleans told sound database its) in
           let next = subst (λ (u : State). moved.field-0 ≡ next_position (site_of u) x) did.0 (moved.ensures.next told sound) in

@@ -1,9 +1,9 @@
-use Rattle.std.proofs.Common.{Ok, Err, refl, sym, subst}
+use Rattle.std.proofs.Common.{◌≡◌, Ok, Err, refl, sym, ◌∙◌, ap, subst}
 use Rattle.ctr_redo.specs.States.{State}
 use Rattle.ctr_record_effects.specs.Standing.{IsDatabaseState}
 use Rattle.ctr_actions.specs.Sites.{site_of}
 use Rattle.ctr_cursor.specs.Standing.{IsPosition}
-use Rattle.ctr_cleaner.specs.Turning.{heeding, TurnsAt}
+use Rattle.ctr_cleaner.specs.Turning.{heeding, TurnsAt, next_cleaned, LeavesRoomBy}
 use Rattle.ctr_pass.proofs.going.clean_from.Goals as goal
 
 pub returns-in-Err-clause-turns : goal.returns-in-Err-clause-turns
@@ -41,3 +41,14 @@ returns-in-Ok-turn-clause-cleans g c = λ told sound database stands.
       subst (λ (u : State). TurnsAt (heeding a.low a.locks.now a.spared a.may) c.in-Ok.from u c.turn.new.store.now c.in-Ok-turn.did) same
           (c.in-Ok-turn.ensures.cleans told sound (subst IsDatabaseState (sym same) database) (subst (λ (u : State). IsPosition c.in-Ok.from (site_of u)) (sym same) there)),
     )
+
+pub returns-in-Ok-turn-clause-counts : goal.returns-in-Ok-turn-clause-counts
+returns-in-Ok-turn-clause-counts g c =
+    let does = c.in-Ok-turn.ensures.counts in
+    let keeps = c.in-Ok.ensures.leaves.keeps in
+    record {
+      numbers = does.numbers ∙ ap (next_cleaned c.in-Ok-turn.did) keeps.next;
+      room = subst (λ m. LeavesRoomBy c.in-Ok-turn.did m c.turn.new.store.meta) keeps.meta does.room;
+      counted = does.counted ∙ keeps.counted;
+      within = does.within;
+    }
