@@ -1,5 +1,5 @@
 -- What a run leaves, by what its World left, in the words of the disk and the script that it was given.
-use Rattle.std.proofs.Common.{◌≡◌, ◌≢◌, ◌⊎◌, ◌∙◌, inl, inr, ⊎_elim, ℕ, ◌≤◌, List, [], ◌++◌, length, Option, Some, None, refl, sym, ap, subst, arith}
+use Rattle.std.proofs.Common.{◌≡◌, ◌≢◌, ◌⊎◌, ◌∙◌, inl, inr, ⊎_elim, ℕ, ◌≤◌, Bool, List, [], ◌++◌, length, Option, Some, None, refl, sym, ap, subst, arith}
 use Rattle.std.specs.Prelude.{IsTrue, ◌^◌, ◌-◌}
 use Rattle.std.specs.List.{AllByRecursion}
 use Rattle.ctr_types.specs.declared.statement.Line.{Line}
@@ -25,7 +25,7 @@ use Rattle.ctr_home.specs.Blocks.{value_of}
 use Rattle.ctr_home.specs.declared.block.Block.TheVariants.{Root as RootBlock}
 use Rattle.ctr_home.specs.declared.root.Root.{Root}
 use Rattle.ctr_base.proofs.RootLaws.{one_root}
-use Rattle.ctr_store.specs.Opening.{IsUndamaged, worn_in}
+use Rattle.ctr_store.specs.Opening.{worn_in}
 use Rattle.ctr_serial.proofs.Lists.{serial_front}
 use Rattle.ctr_world.specs.declared.opening.Opening.{Ghosts as Opening}
 use Rattle.ctr_world.specs.ctr_exec.Order.{StandInOrder}
@@ -33,6 +33,12 @@ use Rattle.ctr_world.specs.Held.{Held}
 use Rattle.ctr_world.specs.Opened.{IsOpenedOn, IsRunLine}
 use Rattle.ctr_world.specs.World.{IsLegalTape, IsTapeOf, LeavesPrefix, StopsBy, IsUndamaged as GoesUndamaged}
 use Rattle.ctr_world.specs.Ended.{Ends, EndsInOrder, IsUnbegunWorld, PassesOpening, RefusesWorld}
+use Rattle.ctr_model.specs.Database.{after_all}
+use Rattle.ctr_world.specs.totals_Totals.{no_totals, AreTotals}
+use Rattle.ctr_world.specs.declared.world.Finished.{Finished as WorldEnd}
+use Rattle.ctr_world.specs.Counted.{CountsLoaded}
+use Rattle.ctr_run.specs.Counting.{CountsAsked}
+use Rattle.ctr_run.specs.declared.ran.Ran.{Ran}
 use Rattle.ctr_run.specs.declared.ran.Left.{Left}
 use Rattle.ctr_run.specs.declared.ran.RunEnd.{RunEnd}
 use Rattle.ctr_run.specs.declared.ran.RunEnd.TheVariants.{Finished, Unopened, Stopped}
@@ -67,6 +73,17 @@ module _ {D B : Type 0} (o : Opening B) (first : Image) (g : Ghosts D) (old : D)
   left_moved s disk es leaves =
       let moved = move (λ n ls. LeftSince g n disk (LeavesPrefixAt o.before (rows_of_state s) (final ls (point n ls s) es).state.asked es)) leaves in
       λ t c from le left. ⊎_elim (λ it. inl it) (λ was. inr (before c was.0, was.1)) (moved t c from le left)
+
+  -- what was counted
+  pub counted_moved : (asked : Bool) (f : WorldEnd D) (end : RunEnd) → end ≡ end_by f.stop → CountsLoaded o first g asked f
+      → CountsAsked g old lines asked (record { end = end; left = record { tape = f.tape; undone = f.undone; totals = f.totals; disk = f.disk } })
+  counted_moved asked f end ended counts = record {
+    counted = λ s told stands is done.
+        move (λ n ls. AreTotals (after_all (final ls (point n ls s) f.tape.entries).state.asked (final ls (point n ls s) f.tape.entries).state.base) f.totals)
+        (counts.counted s told (subst (λ (i : Image). StandsForDatabase i s) (sym named.image) stands) is (not_stopped f.stop (sym ended ∙ done)));
+    unasked = counts.unasked;
+    unfinished = λ other. counts.stopped (λ none. other (ended ∙ ap end_by none));
+  }
 
   module _ (l : Left D) (end : RunEnd) (stopped : Option Stop) (ended : end ≡ end_by stopped) where
     fine : end ≡ Finished → stopped ≡ None
@@ -139,6 +156,10 @@ module _ {D : Type 0} (g : Ghosts D) (old : D) (lines : List Line) (l : Left D) 
     later = later;
     faults = faults;
   }
+
+-- nothing was counted
+pub none_counted : {D : Type 0} (g : Ghosts D) (old : D) (lines : List Line) (asked : Bool) (r : Ran D) → r.end ≢ Finished → r.left.totals ≡ no_totals → CountsAsked g old lines asked r
+none_counted g old lines asked r unfinished none = record { counted = λ s told stands is done. absurd (unfinished done); unasked = λ is. none; unfinished = λ other. none }
 
 at_once : (n : ℕ) → n ≤ n
 at_once n = omega arith

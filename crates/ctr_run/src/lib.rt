@@ -5,6 +5,7 @@ mod lines;
 mod ran;
 mod running;
 
+pub use ctr_world::Totals;
 pub use lines::Schedule;
 pub use ran::{Left, Ran, RunEnd};
 pub use running::run;

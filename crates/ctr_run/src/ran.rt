@@ -2,10 +2,12 @@
 ghost use Rattle.std.specs.Prelude.{◌≡◌, []};
 ghost use Rattle.ctr_run.specs.declared.ran.RunEnd.TheVariants.{Unopened};
 ghost use Rattle.ctr_run.specs.Running.{end_by};
+ghost use Rattle.ctr_world.specs.totals_Totals.{no_totals};
 
 use ctr_disk::Stop;
 use ctr_log::OpenError;
 use ctr_types::{List, Tape};
+use ctr_world::Totals;
 use std::alloc::Global;
 
 /// How a run ended.
@@ -26,6 +28,8 @@ pub struct Left<D> {
     pub tape: Tape,
     /// How many turns recovery's undo took.
     pub undone: usize,
+    /// The rows of the loaded table, and the sum of its second column; both 0 where they weren't asked for, or the run isn't finished.
+    pub totals: Totals,
     /// The disk that it ran on.
     pub disk: D,
 }
@@ -35,6 +39,7 @@ impl<D> Left<D> {
     pub fn none(alloc: Global, disk: D) -> Left<D>
         ensures tape { result.tape.entries ≡ [] }
         ensures undone { result.undone ≡ 0 }
+        ensures totals { result.totals ≡ no_totals }
         ensures disk { result.disk ≡ disk }
     {
         Left {
@@ -42,6 +47,7 @@ impl<D> Left<D> {
                 entries: List::new(alloc),
             },
             undone: 0,
+            totals: Totals::NONE,
             disk,
         }
     }
@@ -60,6 +66,7 @@ impl<D> Ran<D> {
         ensures end { result.end ≡ Unopened error }
         ensures tape { result.left.tape.entries ≡ [] }
         ensures undone { result.left.undone ≡ 0 }
+        ensures totals { result.left.totals ≡ no_totals }
         ensures disk { result.left.disk ≡ disk }
     {
         Ran {

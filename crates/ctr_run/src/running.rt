@@ -8,6 +8,7 @@ ghost use Rattle.ctr_record_effects.specs.Standing.{StandsForDatabase};
 ghost use Rattle.ctr_world.specs.Opened.{IsOpenedOn, CanRun};
 ghost use Rattle.ctr_run.specs.declared.lines.Schedule.TheVariants.{Serial};
 ghost use Rattle.ctr_run.specs.declared.ran.RunEnd.TheVariants.{Finished, Unopened};
+ghost use Rattle.ctr_run.specs.Counting.{CountsAsked};
 ghost use Rattle.ctr_run.specs.Running.{EndsAsAsked, EndsFor, RunsInOrder, RunsNone, RunsOver, TellsNoDamage};
 
 use crate::lines::{Schedule, run_turns};
@@ -38,6 +39,7 @@ fn run_opened<D: Disk, B: Origin + Opening>(
     frames: usize,
     script: Script,
     schedule: Schedule<'_>,
+    totals: bool,
 ) -> Ran<D>
     requires named { IsOpenedOn B.Opening B.first D.Disk disk script.lines }
     requires before { Within B.before (D.images disk) }
@@ -49,6 +51,7 @@ fn run_opened<D: Disk, B: Origin + Opening>(
     ensures serial { schedule.entry ≡ Serial → IsSerial script.lines result.left.tape.entries }
     ensures none { (e : HeldError) → result.end ≡ Unopened e → RunsNone D.Disk disk result.left }
     ensures ends { EndsFor D.Disk disk result.left.disk result.end }
+    ensures counts { CountsAsked D.Disk disk script.lines totals result }
 {
     let Ok(sessions) = sessions_of(alloc, &script) else {
         return Ran::none(alloc, OpenError::OutOfMemory, disk);
@@ -59,25 +62,28 @@ fn run_opened<D: Disk, B: Origin + Opening>(
     };
     run_turns(alloc, &mut world, schedule, sessions.as_slice());
     world.stands_in_order();
-    let finished = world.finish(alloc);
+    let finished = world.finish(alloc, totals);
     Ran {
         end: ended(finished.stop),
         left: Left {
             tape: finished.tape,
             undone: finished.undone,
+            totals: finished.totals,
             disk: finished.disk,
         },
     }
 }
 
 /// Runs a script over the database of a disk, with so many frames for its pages, 8 to 4,096, and makes all durable. It goes on until all statements are
-/// finished and nothing is left of recovery's undo, or the World stops. Memory is refused only before the first entry, or by replies.
+/// finished and nothing is left of recovery's undo, or the World stops. Memory is refused only before the first entry, or by replies. A run that is
+/// finished counts the rows of the loaded table, where that is asked for, and the sum of its second column.
 pub fn run<D: Disk>(
     alloc: Global,
     disk: D,
     frames: usize,
     script: Script,
     schedule: Schedule<'_>,
+    totals: bool,
 ) -> Ran<D>
     requires frames { (8 ≤ frames) × (frames ≤ 4096) }
     requires runs { CanRun script.lines }
@@ -92,8 +98,10 @@ pub fn run<D: Disk>(
     ensures none { (e : HeldError) → result.end ≡ Unopened e → RunsNone D.Disk disk result.left }
     // Each end has its cause.
     ensures ends { EndsFor D.Disk disk result.left.disk result.end }
+    // What was counted of the loaded table: over a database, where the run is finished, the totals of all that asked for a commit.
+    ensures counts { CountsAsked D.Disk disk script.lines totals result }
     // Where nothing fails, what is opened is finished, or comes to the last number of a record.
     ensures complete { (s : State) → IsTrue D.tells → StandsForDatabase (D.reads disk) s → EndsAsAsked D.Disk disk result.left.disk result.end }
 {
-    run_opened::<D, Brand>(alloc, disk, frames, script, schedule)
+    run_opened::<D, Brand>(alloc, disk, frames, script, schedule, totals)
 }

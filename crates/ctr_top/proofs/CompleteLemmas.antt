@@ -41,6 +41,19 @@ work_is ending.OutOfMemory other = refl
 work_is ending.Exists other = refl
 work_is (ending.Worn number) other = refl
 
+-- by the end of a run in which the disk counted no fault
+pub by_end : {D : Type 0} (g : Ghosts D) (old : D) (o : Outcome D) (passes : PassesOpening (g.reads old)) (no_disk : CountsFault (g.faults_of old) (g.faults_of o.left.disk) → ⊥)
+    (end : RunEnd) → o.ending ≡ ran_as end → ((error : OpenError) → end ≡ run.Unopened error → RunsNone g old o.left) → EndsAsAsked g old o.left.disk end → EndsUnfailed o.ending o.left
+by_end g old o passes no_disk run.Finished is none asked = inl is
+by_end g old o passes no_disk (run.Unopened open_error.NoDatabase) is none asked = absurd asked
+by_end g old o passes no_disk (run.Unopened (open_error.Damaged d)) is none asked = absurd asked
+by_end g old o passes no_disk (run.Unopened (open_error.Worn n)) is none asked = absurd (asked passes)
+by_end g old o passes no_disk (run.Unopened open_error.Fault) is none asked = absurd (no_disk asked)
+by_end g old o passes no_disk (run.Unopened open_error.OutOfMemory) is none asked = inr (inl (is, (none open_error.OutOfMemory refl).tape))
+by_end g old o passes no_disk (run.Stopped stop.Fault) is none asked = absurd (no_disk asked)
+by_end g old o passes no_disk (run.Stopped (stop.Damaged d)) is none asked = absurd asked
+by_end g old o passes no_disk (run.Stopped (stop.Worn lsn)) is none asked = inr (inr (lsn, is, asked))
+
 -- a run in which nothing failed is finished, or ended for want of memory before its first entry, or is worn
 module _ {D S : Type 0} (law : NoScriptIsRefused) (g : Ghosts D) (old : D) (s : Source S) (source new : S) (o : Outcome D) (h : RunCauses g old s source new o)
     (told : IsTrue g.tells) (source_told : IsTrue s.tells) (ls : List Line) (script : IsShortText (s.left source) ls) (base : State) (stands : StandsForDatabase (g.reads old) base) (passes : PassesOpening (g.reads old))
@@ -60,18 +73,7 @@ module _ {D S : Type 0} (law : NoScriptIsRefused) (g : Ghosts D) (old : D) (s : 
   is_read ending.Exists from = tt
   is_read (ending.Worn number) from = tt
 
-  by_end : (end : RunEnd) → o.ending ≡ ran_as end → ((error : OpenError) → end ≡ run.Unopened error → RunsNone g old o.left) → EndsAsAsked g old o.left.disk end → EndsUnfailed o.ending o.left
-  by_end run.Finished is none asked = inl is
-  by_end (run.Unopened open_error.NoDatabase) is none asked = absurd asked
-  by_end (run.Unopened (open_error.Damaged d)) is none asked = absurd asked
-  by_end (run.Unopened (open_error.Worn n)) is none asked = absurd (asked passes)
-  by_end (run.Unopened open_error.Fault) is none asked = absurd (no_disk asked)
-  by_end (run.Unopened open_error.OutOfMemory) is none asked = inr (inl (is, (none open_error.OutOfMemory refl).tape))
-  by_end (run.Stopped stop.Fault) is none asked = absurd (no_disk asked)
-  by_end (run.Stopped (stop.Damaged d)) is none asked = absurd asked
-  by_end (run.Stopped (stop.Worn lsn)) is none asked = inr (inr (lsn, is, asked))
-
   pub complete_of : EndsUnfailed o.ending o.left
   complete_of =
       let by = h.by_disk (is_read o.ending h.by_source) in
-      by_end by.end by.is by.none (by.asked base told stands)
+      by_end g old o passes no_disk by.end by.is by.none (by.asked base told stands)

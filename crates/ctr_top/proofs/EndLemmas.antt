@@ -6,19 +6,19 @@ use Rattle.ctr_io.specs.declared.edges.Source.{Ghosts as Source}
 use Rattle.ctr_io.specs.declared.edges.Sink.{Ghosts as Sink}
 use Rattle.ctr_model.specs.declared.tape.Cause.{Cause}
 use Rattle.ctr_model.specs.declared.tape.Command.{Command}
+use Rattle.ctr_model.specs.declared.tape.Command.TheVariants as command
 use Rattle.ctr_model.specs.declared.tape.Report.{Report}
-use Rattle.ctr_model.specs.Texts.{transcript, last_line}
+use Rattle.ctr_model.specs.Texts.{last_line}
 use Rattle.ctr_words.specs.declared.words.Subcommand.{Subcommand}
 use Rattle.ctr_words.specs.declared.words.Subcommand.TheVariants as subcommand
 use Rattle.ctr_words.specs.declared.words.WordsError.{WordsError}
-use Rattle.ctr_words.specs.declared.words.WordsError.TheVariants as words
 use Rattle.ctr_words.specs.Words.{AsksForNothing}
 use Rattle.ctr_top.specs.declared.ending.Ending.{Ending}
 use Rattle.ctr_top.specs.declared.ending.Ending.TheVariants as ending
 use Rattle.ctr_top.specs.declared.outcome.Outcome.{Outcome}
 use Rattle.ctr_top.specs.declared.run.Ended.{Ended}
 use Rattle.ctr_top.specs.Endings.{status_of, cause_of, asked_as, work}
-use Rattle.ctr_top.specs.Top.{IsUnrun, MindsWords, PutsText, printed_text, report_of, work_of}
+use Rattle.ctr_top.specs.Top.{IsUnrun, MindsWords, PutsText, printed_text, report_of, shown_tape, work_of}
 use Rattle.ctr_top.proofs.CompleteLemmas.{work_is}
 
 -- work that ends otherwise than finished is the ending
@@ -40,21 +40,42 @@ line_any : (e : Ending) → (e ≡ ending.Usage) ⊎ (e ≡ ending.OutOfMemory) 
 line_any e (inl usage) a b cause es r = subst (λ w. last_line a (status_of w) cause es r ≡ last_line b (status_of w) cause es r) (sym usage) refl
 line_any e (inr memory) a b cause es r = subst (λ w. last_line a (status_of w) cause es r ≡ last_line b (status_of w) cause es r) (sym memory) refl
 
+-- of no entry nothing is shown
+shown_none : (command : Command) → shown_tape command [] ≡ []
+shown_none (command.Load sessions statements) = refl
+shown_none command.Init = refl
+shown_none command.Run = refl
+shown_none (command.Survey counts) = refl
+
+-- the text of work that wasn't begun is the same for each command
+text_any : (e : Ending) → (e ≡ ending.Usage) ⊎ (e ≡ ending.OutOfMemory) → (a b : Command) (cause : Cause) (es : List Entry) (r : Report) → es ≡ []
+    → shown_tape a es ++ last_line a (status_of e) cause es r ≡ shown_tape b es ++ last_line b (status_of e) cause es r
+text_any e none a b cause es r empty =
+    let shown : shown_tape a es ≡ shown_tape b es = subst (λ l. shown_tape a l ≡ shown_tape b l) (sym empty) (shown_none a ∙ sym (shown_none b)) in
+    let line = line_any e none a b cause es r in
+    λ i. shown i ++ line i
+
 abbrev text_of : {D : Type 0} → Command → Outcome D → List ℕ
-text_of command o = transcript o.left.tape.entries ++ last_line command (status_of o.ending) (cause_of o.ending) o.left.tape.entries (report_of o.left)
+text_of command o = shown_tape command o.left.tape.entries ++ last_line command (status_of o.ending) (cause_of o.ending) o.left.tape.entries (report_of o.left)
 
 module _ {D K : Type 0} (k : Sink K) (old new : K) (e : Ended D) (o : Outcome D) (outcome : work_of e ≡ o) (report : e.report ≡ report_of o.left) where
   same_text : (command : Command) → text_of command o ≡ printed_text command e
-  same_text command = sym (λ i. transcript (outcome i).left.tape.entries ++ last_line command (status_of (outcome i).ending) (cause_of (outcome i).ending) (outcome i).left.tape.entries (report i))
+  same_text command = sym (λ i. shown_tape command (outcome i).left.tape.entries ++ last_line command (status_of (outcome i).ending) (cause_of (outcome i).ending) (outcome i).left.tape.entries (report i))
 
   -- the text of a command that was begun
   pub prints : (command told : Command) → command ≡ told → PutsText k old (text_of command o) new e.ending → PutsText k old (printed_text told e) new e.ending
   prints command told is puts = subst (λ t. PutsText k old t new e.ending) (same_text command ∙ ap (λ c. printed_text c e) is) puts
 
   -- the text of one that wasn't
-  pub prints_any : (o.ending ≡ ending.Usage) ⊎ (o.ending ≡ ending.OutOfMemory) → (command told : Command) → PutsText k old (text_of command o) new e.ending → PutsText k old (printed_text told e) new e.ending
-  prints_any none command told puts =
-      subst (λ t. PutsText k old t new e.ending) (ap (λ l. transcript o.left.tape.entries ++ l) (line_any o.ending none command told (cause_of o.ending) o.left.tape.entries (report_of o.left)) ∙ same_text told) puts
+  pub prints_any : (o.ending ≡ ending.Usage) ⊎ (o.ending ≡ ending.OutOfMemory) → o.left.tape.entries ≡ [] → (command told : Command) → PutsText k old (text_of command o) new e.ending → PutsText k old (printed_text told e) new e.ending
+  prints_any none empty command told puts =
+      subst (λ t. PutsText k old t new e.ending) (text_any o.ending none command told (cause_of o.ending) o.left.tape.entries (report_of o.left) empty ∙ same_text told) puts
+
+  -- the text of a load, whose statements were counted unless memory was refused for them
+  pub prints_load : (sessions a b : ℕ) → (a ≡ b) ⊎ (o.ending ≡ ending.OutOfMemory) → (told : Command) → command.Load sessions b ≡ told → PutsText k old (text_of (command.Load sessions a) o) new e.ending → PutsText k old (printed_text told e) new e.ending
+  prints_load sessions a b (inl same) told is puts = prints (command.Load sessions a) told (ap (λ n. command.Load sessions n) same ∙ is) puts
+  prints_load sessions a b (inr memory) told is puts = prints (command.Load sessions b) told is
+      (subst (λ t. PutsText k old t new e.ending) (ap (λ (l : List ℕ). [] ++ l) (line_any o.ending (inr memory) (command.Load sessions a) (command.Load sessions b) (cause_of o.ending) o.left.tape.entries (report_of o.left))) puts)
 
 module _ {D S : Type 0} (s : Source S) (asked : Option Subcommand) (old : D) (e : Ended D) where
   -- a command that wasn't begun

@@ -5,3 +5,4 @@ mod ReportLemmas
 mod ScriptLemmas
 mod CompleteLemmas
 mod EndLemmas
+mod LoadLemmas

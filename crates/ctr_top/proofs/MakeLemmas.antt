@@ -22,7 +22,7 @@ pub makes_over : {D : Type 0} (g : Ghosts D) (old : D) (o : Outcome D) (none : I
     → (IsTrue g.tells → IsSome (value_of RootBlock (g.reads old)) → OnlyReads g old disk)
     → MakeWhy g old disk o.ending → g.strays_of disk ≡ g.strays_of old → Makes g old o
 makes_over g old o none disk same any_moment made untouched causes stray =
-    subst (λ d. Makes g old (record { ending = o.ending; left = record { tape = o.left.tape; undone = o.left.undone; disk = d } })) (sym same)
+    subst (λ d. Makes g old (record { ending = o.ending; left = record { tape = o.left.tape; undone = o.left.undone; totals = o.left.totals; disk = d } })) (sym same)
     (record { any_moment = any_moment; made = made; untouched = untouched; causes = causes; none = none; stray = stray })
 
 -- nothing was made, so nothing was finished

@@ -4,12 +4,10 @@ use Rattle.std.specs.Prelude.{IsTrue}
 use Rattle.ctr_disk.specs.Device.{LeavesOnly}
 use Rattle.ctr_disk.specs.declared.disk.Disk.{Ghosts}
 use Rattle.ctr_log.specs.declared.opening.OpenError.{OpenError}
-use Rattle.ctr_log.specs.declared.opening.OpenError.TheVariants as open_error
 use Rattle.ctr_redo.specs.States.{State}
 use Rattle.ctr_record_effects.specs.Standing.{StandsForDatabase}
 use Rattle.ctr_store.specs.Opening.{IsUndamaged}
 use Rattle.ctr_database.specs.ctr_run.ctr_world.Ended.{PassesOpening, RefusesWith, RefusesWorld}
-use Rattle.ctr_database.specs.ctr_run.declared.ran.RunEnd.{RunEnd}
 use Rattle.ctr_database.specs.ctr_run.declared.ran.RunEnd.TheVariants.{Finished, Unopened}
 use Rattle.ctr_database.specs.ctr_run.Running.{EndsFor, RunsNone}
 use Rattle.ctr_database.proofs.ctr_run.Ends.{as_asked}

@@ -86,7 +86,7 @@ fits s (st.Select table at) ts within m = tt
 fits s (st.Update table sets at) ts within m = tt
 fits s (st.Delete table at) ts within m = tt
 
-run_line : (l : Line) (ts : List (List ℕ)) → SpellsLine ts l → IsRunLine l
+pub run_line : (l : Line) (ts : List (List ℕ)) → SpellsLine ts l → IsRunLine l
 run_line l ts is = record { least = is.low; most = is.high; fits = fits l.session l.statement ts is.within is.spelled }
 
 all_run : (lines : List (List ℕ)) (said : List Line) → AllSay SpellsLine lines said → AllByRecursion IsRunLine said

@@ -1,5 +1,5 @@
 -- What a command promises: what a crash leaves, the tape, the text, and the cause of each ending.
-use Rattle.std.specs.Prelude.{◌≡◌, ◌≢◌, ◌⊎◌, ◌≤◌, ◌<◌, ℕ, ◌+◌, ◌-◌, ◌^◌, pos, Bool, true, false, IsTrue, IsSome, List, [], ◌++◌, length, Option, None, Some}
+use Rattle.std.specs.Prelude.{◌≡◌, ◌≢◌, ◌⊎◌, ◌≤◌, ◌<◌, ℕ, ◌+◌, ◌-◌, ◌^◌, Bool, true, false, IsTrue, IsSome, List, [], ◌++◌, length, Option, None, Some}
 use Rattle.ctr_types.specs.Faults.{CountsFault}
 use Rattle.ctr_types.specs.declared.statement.Line.{Line}
 use Rattle.ctr_disk.specs.Image.{Image}
@@ -11,6 +11,7 @@ use Rattle.ctr_io.specs.declared.edges.Sink.{Ghosts as Sink}
 use Rattle.ctr_home.specs.declared.block.Block.TheVariants.{Root as RootBlock}
 use Rattle.ctr_home.specs.Blocks.{value_of}
 use Rattle.ctr_log.specs.declared.opening.OpenError.{OpenError}
+use Rattle.ctr_types.specs.declared.tape.Entry.{Entry}
 use Rattle.ctr_model.specs.declared.tape.Command.{Command}
 use Rattle.ctr_model.specs.declared.tape.Command.TheVariants as command
 use Rattle.ctr_model.specs.declared.tape.Report.{Report}
@@ -18,8 +19,10 @@ use Rattle.ctr_model.specs.declared.tape.Survey.{Survey}
 use Rattle.ctr_model.specs.Grammar.{most_bytes}
 use Rattle.ctr_model.specs.Language.{SpellsLine}
 use Rattle.ctr_model.specs.Lines.{IsWritten}
+use Rattle.ctr_model.specs.Tape.{IsSerial}
 use Rattle.ctr_model.specs.Texts.{answers, refusals, transcript, last_line}
 use Rattle.ctr_print.specs.Prints.{PutsOn}
+use Rattle.ctr_load.specs.Generated.{generated}
 use Rattle.ctr_redo.specs.States.{State}
 use Rattle.ctr_record_effects.specs.Standing.{StandsForDatabase}
 use Rattle.ctr_script.specs.Written.{IsShortRefusal}
@@ -28,7 +31,10 @@ use Rattle.ctr_database.specs.Database.{IsNewlyMade, IsNoneOrNewlyMade}
 use Rattle.ctr_database.specs.ctr_run.declared.ran.Left.{Left}
 use Rattle.ctr_database.specs.ctr_run.declared.ran.RunEnd.{RunEnd}
 use Rattle.ctr_database.specs.ctr_run.declared.ran.RunEnd.TheVariants.{Stopped, Unopened}
-use Rattle.ctr_database.specs.ctr_run.Running.{EndsAsAsked, EndsFor, RunsInOrder, RunsNone, RunsOver}
+use Rattle.ctr_database.specs.ctr_run.Running.{EndsAsAsked, EndsFor, RunsInOrder, RunsNone, RunsOver, opened_on}
+use Rattle.ctr_database.specs.ctr_run.ctr_world.Ended.{PassesOpening}
+use Rattle.ctr_database.specs.ctr_run.ctr_world.World.{rows_asked}
+use Rattle.ctr_database.specs.ctr_run.ctr_world.totals_Totals.{AreTotals, no_totals}
 use Rattle.ctr_words.specs.declared.words.Subcommand.{Subcommand}
 use Rattle.ctr_words.specs.declared.words.Subcommand.TheVariants as subcommand
 use Rattle.ctr_top.specs.declared.outcome.Outcome.{Outcome}
@@ -159,6 +165,28 @@ EndsUnfailed e l = (e ≡ ending.Finished)
     ⊎ (((e ≡ ending.OutOfMemory) × (l.tape.entries ≡ []))
     ⊎ ((lsn : ℕ) × (e ≡ ending.Worn lsn) × (2 ^ 63 - 1 ≤ lsn)))
 
+-- ---- load
+
+-- The lines were run, in serial order, or memory was refused before the disk was touched. What stands
+-- of a script's run stands here: order, what a crash leaves, causes, and, where nothing fails, the end.
+-- Over a database a load that is finished tells the rows of the table `load` and their sum, as they
+-- are behind all commits of the tape; else it tells none.
+pub record Loads {D : Type 0} (g : Ghosts D) (old : D) (lines : List Line) (o : Outcome D)
+    : Type 0 where
+  pub order : RunsInOrder g old lines (IsFinished o) o.left
+  pub over : (base : State) → IsTrue g.tells → StandsForDatabase (g.reads old) base
+      → RunsOver g old base lines (IsFinished o) o.left
+  pub serial : IsSerial lines o.left.tape.entries
+  pub causes : EndsBy g old o
+  pub calm : o.ending ≢ ending.DiskFault → g.faults_of o.left.disk ≡ g.faults_of old
+  pub complete : (base : State) → IsTrue g.tells → StandsForDatabase (g.reads old) base
+      → PassesOpening (g.reads old) → (CountsFault (g.faults_of old) (g.faults_of o.left.disk) → ⊥)
+      → EndsUnfailed o.ending o.left
+  pub counted : (base : State) → IsTrue g.tells → StandsForDatabase (g.reads old) base
+      → IsFinished o
+      → AreTotals (rows_asked (opened_on g old lines) base o.left.tape.entries) o.left.totals
+  pub uncounted : (IsFinished o → ⊥) → o.left.totals ≡ no_totals
+
 -- ---- init
 
 -- the cause of each ending of a making, which has no others
@@ -227,15 +255,24 @@ pub record MindsWords {D S : Type 0} (s : Source S) (asked : Option Subcommand) 
 abbrev pub command_told : Option Subcommand → Survey → Command
 command_told (Some subcommand.Init) counts = command.Init
 command_told (Some (subcommand.Run frames)) counts = command.Run
+command_told (Some (subcommand.Load frames sessions count seed)) counts =
+    command.Load sessions (length (generated sessions count seed))
 command_told (Some subcommand.Report) counts = command.Survey counts
 command_told None counts = command.Run
 
--- the transcript, and the last line of the work's ending
+-- what a command shows of its tape: the transcript, and a load nothing
+abbrev pub shown_tape : Command → List Entry → List ℕ
+shown_tape (command.Load sessions statements) es = []
+shown_tape command.Init es = transcript es
+shown_tape command.Run es = transcript es
+shown_tape (command.Survey counts) es = transcript es
+
+-- what is shown of the tape, and the last line of the work's ending
 abbrev pub printed_text : {D : Type 0} → Command → Ended D → List ℕ
 printed_text command e =
     let ended = work e.ending in
     let es = e.left.tape.entries in
-    transcript es ++ last_line command (status_of ended) (cause_of ended) es e.report
+    shown_tape command es ++ last_line command (status_of ended) (cause_of ended) es e.report
 
 -- the text was put, or where the sink failed a prefix of it; a write fault is the end of work whose
 -- text wasn't put
@@ -246,14 +283,14 @@ pub record PutsText {K : Type 0} (g : Sink K) (old : K) (text : List ℕ) (new :
   pub fine : e ≡ ending.Finished → done ≡ true
   pub failed : e ≡ ending.WriteFault → done ≡ false
 
--- commits answered and acts refused, as the tape has them, and the turns that undo took
+-- commits answered and acts refused, as the tape has them, the turns that undo took, and the totals
 abbrev pub report_of : {D : Type 0} → Left D → Report
 report_of l = record {
   commits = answers l.tape.entries;
   refused = refusals l.tape.entries;
   undo_turns = l.undone;
-  rows = 0;
-  sum = pos 0;
+  rows = l.totals.rows;
+  sum = l.totals.sum;
 }
 
 -- ---- faults

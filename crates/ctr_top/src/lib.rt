@@ -2,6 +2,7 @@
 #![tactic(auto)]
 
 mod ending;
+mod loading;
 mod making;
 mod outcome;
 mod report;

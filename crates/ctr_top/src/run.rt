@@ -5,26 +5,29 @@ ghost use Rattle.ctr_types.specs.declared.statement.Line.{Line};
 ghost use Rattle.ctr_model.specs.Language.{SpellsLine};
 ghost use Rattle.ctr_model.specs.Lines.{IsWritten};
 ghost use Rattle.ctr_model.specs.Tape.{IsSerial};
-ghost use Rattle.ctr_model.specs.Texts.{transcript, last_line};
+ghost use Rattle.ctr_model.specs.Texts.{last_line};
+ghost use Rattle.ctr_print.specs.Prints.{PutsOn};
 ghost use Rattle.ctr_redo.specs.States.{State};
 ghost use Rattle.ctr_record_effects.specs.Standing.{StandsForDatabase};
+ghost use Rattle.ctr_load.specs.Generated.{generated};
 ghost use Rattle.ctr_script.specs.Written.{IsShortText};
 ghost use Rattle.ctr_words.specs.Words.{command_asked};
 ghost use Rattle.ctr_database.specs.ctr_run.ctr_world.Ended.{PassesOpening};
 ghost use Rattle.ctr_top.specs.declared.ending.Ending.TheVariants.{Finished, WriteFault};
 ghost use Rattle.ctr_top.specs.Endings.{status_of, cause_of, work};
-ghost use Rattle.ctr_top.specs.Top.{RanScript, RunCauses, EndsUnfailed, Makes, GoesForward, MindsWords, PutsText, NoneFailed, Reports, command_told, printed_text, work_of, report_of, faults_of};
+ghost use Rattle.ctr_top.specs.Top.{RanScript, RunCauses, EndsUnfailed, Makes, GoesForward, MindsWords, PutsText, NoneFailed, Loads, Reports, command_told, printed_text, shown_tape, work_of, report_of, faults_of};
 
 use crate::ending::{Ending, not_asked};
+use crate::loading::load;
 use crate::making::make;
 use crate::outcome::Outcome;
 use crate::report::{UNCOUNTED, report};
 use crate::script::run_script;
 use ctr_database::running::{Left, Schedule};
 use ctr_disk::Disk;
-use ctr_io::{Sink, Source};
-use ctr_model::{Command, Report, Survey};
-use ctr_print::{count_answers, count_refusals, put_run};
+use ctr_io::{Sink, Source, Tape};
+use ctr_model::{Cause, Command, Report, Survey};
+use ctr_print::{Printer, count_answers, count_refusals, put_last_line, put_run};
 use ctr_script::one_script;
 use ctr_words::{FRAMES, Subcommand, command};
 use std::alloc::Global;
@@ -53,10 +56,45 @@ fn after_put(ending: Ending, fine: bool) -> Ending
     }
 }
 
-// Puts the transcript and the last line.
+// Puts the last line alone.
+fn put_end<K: Sink>(
+    sink: &mut K,
+    command: &Command,
+    status: u8,
+    cause: &Cause,
+    tape: &Tape,
+    report: &Report,
+) -> bool
+    ensures { PutsOn K.Sink sink.old (last_line command.now status cause.now tape.now.entries report.now) sink.new result }
+{
+    let mut out = Printer::new(sink);
+    put_last_line(&mut out, command, status, cause, tape, report);
+    out.finish()
+}
+
+// Puts the transcript and the last line, and of a load only that.
+fn put_text<K: Sink>(
+    sink: &mut K,
+    command: &Command,
+    status: u8,
+    cause: &Cause,
+    tape: &Tape,
+    report: &Report,
+) -> bool
+    ensures { PutsOn K.Sink sink.old (shown_tape command.now tape.now.entries ++ last_line command.now status cause.now tape.now.entries report.now) sink.new result }
+{
+    match command {
+        Command::Load { .. } => put_end(sink, command, status, cause, tape, report),
+        Command::Init | Command::Run | Command::Survey { .. } => {
+            put_run(sink, command, status, cause, tape, report)
+        }
+    }
+}
+
+// Puts what a command shows of its tape, and the last line.
 fn ending<D, K: Sink>(sink: &mut K, command: &Command, outcome: Outcome<D>) -> Ended<D>
     requires { outcome.ending ≢ WriteFault }
-    ensures printed { PutsText K.Sink sink.old (transcript outcome.left.tape.entries ++ last_line command.now (status_of outcome.ending) (cause_of outcome.ending) outcome.left.tape.entries (report_of outcome.left)) sink.new result.ending }
+    ensures printed { PutsText K.Sink sink.old (shown_tape command.now outcome.left.tape.entries ++ last_line command.now (status_of outcome.ending) (cause_of outcome.ending) outcome.left.tape.entries (report_of outcome.left)) sink.new result.ending }
     ensures outcome { work_of result ≡ outcome }
     ensures report { result.report ≡ report_of outcome.left }
     ensures survey { (counts : Survey) → command.now ≡ Command.Survey counts → result.survey ≡ counts }
@@ -66,12 +104,12 @@ fn ending<D, K: Sink>(sink: &mut K, command: &Command, outcome: Outcome<D>) -> E
         commits: count_answers(&left.tape),
         refused: count_refusals(&left.tape),
         undo_turns: left.undone as u64,
-        rows: 0,
-        sum: 0,
+        rows: left.totals.rows,
+        sum: left.totals.sum,
     };
     let status = ending.status();
     let cause = ending.cause();
-    let fine = put_run(sink, command, status, &cause, &left.tape, &report);
+    let fine = put_text(sink, command, status, &cause, &left.tape, &report);
     let survey = match command {
         Command::Survey { start } => *start,
         Command::Init | Command::Run | Command::Load { .. } => UNCOUNTED,
@@ -87,7 +125,7 @@ fn ending<D, K: Sink>(sink: &mut K, command: &Command, outcome: Outcome<D>) -> E
 /// Runs a command: the words behind the program's name, over a disk, from a source to a sink.
 ///
 /// `init DIR` makes the empty database; `run DIR [--frames N]` runs the script of the source, with so many frames for the database's pages;
-/// `report DIR` counts what the database holds. DIR doesn't begin with `-`, and the disk is that of the folder. How it ends, and by
+/// `load DIR --sessions S --count C --seed X [--frames N]` runs the generated script of S sessions and C rounds, drawn from the seed X; `report DIR` counts what the database holds. DIR doesn't begin with `-`, and the disk is that of the folder. How it ends, and by
 /// which status, is an `Ending`.
 pub fn run_serial<D: Disk, S: Source, K: Sink>(
     alloc: Global,
@@ -116,6 +154,9 @@ pub fn run_serial<D: Disk, S: Source, K: Sink>(
     ensures init { command_asked (map string_bytes words.now) ≡ Some Subcommand.Init → Makes D.Disk disk (work_of result) }
     // A report logs nothing, and tells what the disk held at the start.
     ensures report { command_asked (map string_bytes words.now) ≡ Some Subcommand.Report → Reports D.Disk disk result }
+    // A load runs its generated script as a run does the source's, and tells the totals of the table `load`.
+    ensures loaded { (frames sessions count seed : ℕ) → command_asked (map string_bytes words.now) ≡ Some (Subcommand.Load frames sessions count seed)
+        → Loads D.Disk disk (generated sessions count seed) (work_of result) }
     // A command that is finished has met no fault.
     ensures calm { result.ending ≡ Finished
         → faults_of D.Disk S.Source K.Sink result.left.disk source.new sink.new ≡ faults_of D.Disk S.Source K.Sink disk source.old sink.old }
@@ -138,6 +179,26 @@ pub fn run_serial<D: Disk, S: Source, K: Sink>(
         Subcommand::Run { frames } => {
             let outcome = run_script(alloc, disk, usize::from(frames), source, Schedule::Serial);
             ending(sink, &Command::Run, outcome)
+        }
+        Subcommand::Load {
+            frames,
+            sessions,
+            count,
+            seed,
+        } => {
+            let (statements, outcome) = load(
+                alloc,
+                disk,
+                usize::from(frames),
+                sessions,
+                count,
+                seed,
+            );
+            let command = Command::Load {
+                sessions: sessions as u64,
+                statements,
+            };
+            ending(sink, &command, outcome)
         }
     }
 }

@@ -34,7 +34,7 @@ pub fn run_script<D: Disk, S: Source>(
 {
     match read_script(alloc, source) {
         Ok(script) => {
-            let ran = run(alloc, disk, frames, script, schedule);
+            let ran = run(alloc, disk, frames, script, schedule, false);
             Outcome {
                 ending: ended(ran.end),
                 left: ran.left,

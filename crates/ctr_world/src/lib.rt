@@ -11,5 +11,6 @@ mod opening;
 mod parts;
 mod world;
 
+pub use ctr_totals::Totals;
 pub use opening::Opening;
 pub use world::{Finished, World};

@@ -10,7 +10,7 @@ use Rattle.ctr_world.specs.Ended.{IsUnbegunWorld, RefusesWith, RefusesWorld}
 use Rattle.ctr_world.specs.Opened.{IsRunLine}
 use Rattle.ctr_run.specs.declared.ran.RunEnd.TheVariants.{Finished}
 use Rattle.ctr_run.specs.Running.{EndsFor, TellsNoDamage}
-use Rattle.ctr_run.proofs.Ends.{begins_serial, ends_for, none_in_order, none_leaves, none_over, not_finished, not_unopened, runs_in_order, runs_over, serial_end, tells_none, untouched_for, untouched_in_order, untouched_leaves, untouched_over}
+use Rattle.ctr_run.proofs.Ends.{begins_serial, counted_moved, none_counted, ends_for, none_in_order, none_leaves, none_over, not_finished, not_unopened, runs_in_order, runs_over, serial_end, tells_none, untouched_for, untouched_in_order, untouched_leaves, untouched_over}
 use Rattle.ctr_run.proofs.running.run_opened.Goals as goal
 
 -- ---- memory was refused
@@ -109,20 +109,20 @@ pub returns-clause-ran : goal.returns-clause-ran
 returns-clause-ran g c = λ s told stands.
     let f = c.finish-finished in
     let named = c.requires.named in
-    runs_over g.B.Opening g.B.Origin.first g.D.Disk c.args.disk c.args.script.lines named c.requires.before (record { tape = f.result.tape; undone = f.result.undone; disk = f.result.disk }) c.ended.result f.result.stop c.ended.ensures s
+    runs_over g.B.Opening g.B.Origin.first g.D.Disk c.args.disk c.args.script.lines named c.requires.before (record { tape = f.result.tape; undone = f.result.undone; totals = f.result.totals; disk = f.result.disk }) c.ended.result f.result.stop c.ended.ensures s
     (f.ensures.ends s told (subst (λ i. StandsForDatabase i s) (sym named.image) stands))
 
 pub returns-clause-undamaged : goal.returns-clause-undamaged
 returns-clause-undamaged g c = λ s told stands.
     let f = c.finish-finished in
     let named = c.requires.named in
-    tells_none g.B.Opening g.B.Origin.first g.D.Disk c.args.disk c.args.script.lines named c.requires.before (record { tape = f.result.tape; undone = f.result.undone; disk = f.result.disk }) c.ended.result f.result.stop c.ended.ensures
+    tells_none g.B.Opening g.B.Origin.first g.D.Disk c.args.disk c.args.script.lines named c.requires.before (record { tape = f.result.tape; undone = f.result.undone; totals = f.result.totals; disk = f.result.disk }) c.ended.result f.result.stop c.ended.ensures
     (f.ensures.ends s told (subst (λ i. StandsForDatabase i s) (sym named.image) stands)).undamaged
 
 pub returns-clause-order : goal.returns-clause-order
 returns-clause-order g c =
     let f = c.finish-finished in
-    runs_in_order g.B.Opening g.B.Origin.first g.D.Disk c.args.disk c.args.script.lines c.requires.named c.requires.before (record { tape = f.result.tape; undone = f.result.undone; disk = f.result.disk }) c.ended.result f.result.stop c.ended.ensures f.ensures.order f.ensures.later f.ensures.faults
+    runs_in_order g.B.Opening g.B.Origin.first g.D.Disk c.args.disk c.args.script.lines c.requires.named c.requires.before (record { tape = f.result.tape; undone = f.result.undone; totals = f.result.totals; disk = f.result.disk }) c.ended.result f.result.stop c.ended.ensures f.ensures.order f.ensures.forward.0 f.ensures.forward.1
 
 pub returns-clause-none : goal.returns-clause-none
 returns-clause-none g c = λ e is. not_unopened c.ended.result c.finish-finished.result.stop c.ended.ensures e is
@@ -130,7 +130,7 @@ returns-clause-none g c = λ e is. not_unopened c.ended.result c.finish-finished
 pub returns-clause-ends : goal.returns-clause-ends
 returns-clause-ends g c =
     let f = c.finish-finished in
-    ends_for g.B.Opening g.B.Origin.first g.D.Disk c.args.disk c.args.script.lines c.requires.named c.requires.before (record { tape = f.result.tape; undone = f.result.undone; disk = f.result.disk }) c.ended.result f.result.stop c.ended.ensures f.ensures.stops c.in-Ok-open.ensures.passes
+    ends_for g.B.Opening g.B.Origin.first g.D.Disk c.args.disk c.args.script.lines c.requires.named c.requires.before (record { tape = f.result.tape; undone = f.result.undone; totals = f.result.totals; disk = f.result.disk }) c.ended.result f.result.stop c.ended.ensures f.ensures.stops c.in-Ok-open.ensures.passes
     (λ told s stands. (f.ensures.ends s told stands).undamaged) f.ensures.worn
 
 pub returns-clause-serial : goal.returns-clause-serial
@@ -145,3 +145,18 @@ returns-clause-serial g c = λ is.
     let ran = c.run_turns.ensures is (begins_serial o.start o.lines c.in-Ok-open.world (begun.lines_are ∙ sym lines_are) (subst (λ ls. IsUnbegunWorld ls c.in-Ok-open.world) (sym lines_are) begun)) in
     subst (λ ls. IsSerial ls f.result.tape.entries) lines_are
     (serial_end o.lines (subst (AllByRecursion IsRunLine) (sym lines_are) c.requires.runs.each) o.start w c.stands_in_order.ensures.lines ran f.result.tape.entries adds.0 (by.tape_is ∙ adds.1) (λ stopped. (f.ensures.stopped stopped).0) f.ensures.order.tape.order)
+
+pub returns-in_default-clause-counts : goal.returns-in_default-clause-counts
+returns-in_default-clause-counts g c =
+    let t = c.none.ensures in
+    none_counted g.D.Disk c.args.disk c.args.script.lines c.args.totals c.none.result (not_finished c.none.result.end open_error.OutOfMemory t.end) t.totals
+
+pub returns-in-Err-clause-counts : goal.returns-in-Err-clause-counts
+returns-in-Err-clause-counts g c =
+    let t = c.none-in-Err.ensures in
+    none_counted g.D.Disk c.args.disk c.args.script.lines c.args.totals c.none-in-Err.result (not_finished c.none-in-Err.result.end c.in-Err.error t.end) t.totals
+
+pub returns-clause-counts : goal.returns-clause-counts
+returns-clause-counts g c =
+    let f = c.finish-finished in
+    counted_moved g.B.Opening g.B.Origin.first g.D.Disk c.args.disk c.args.script.lines c.requires.named c.requires.before c.args.totals f.result c.ended.result c.ended.ensures f.ensures.counts

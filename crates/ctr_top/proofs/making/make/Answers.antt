@@ -1,9 +1,5 @@
 use Rattle.std.specs.Prelude.{Ok, Err}
-use Rattle.std.proofs.Common.{◌≡◌, ◌≢◌, ◌∙◌, sym, subst}
-use Rattle.ctr_store.specs.declared.creating.CreateError.{CreateError}
-use Rattle.ctr_store.specs.declared.creating.CreateError.TheVariants as create
-use Rattle.ctr_top.specs.declared.ending.Ending.TheVariants as ending
-use Rattle.ctr_top.specs.Endings.{made_as}
+use Rattle.std.proofs.Common.{◌∙◌, sym, subst}
 use Rattle.ctr_top.specs.Top.{MakeWhy}
 use Rattle.ctr_top.proofs.MakeLemmas.{makes_over, made_memory, failed_why, failed_fine}
 use Rattle.ctr_top.proofs.making.make.Goals as goal

@@ -3,12 +3,13 @@ use Rattle.ctr_types.specs.Faults.{CountsFault}
 use Rattle.ctr_model.specs.declared.tape.Command.TheVariants as command
 use Rattle.ctr_model.specs.Tape.{statements_on}
 use Rattle.ctr_serial.proofs.Lists.{serial_front}
-use Rattle.ctr_words.specs.declared.words.Subcommand.TheVariants.{Init, Run, Report}
-use Rattle.ctr_words.specs.Words.{AsksForNothing}
+use Rattle.ctr_words.specs.declared.words.Subcommand.TheVariants.{Init, Load, Run, Report}
 use Rattle.ctr_top.specs.declared.ending.Ending.TheVariants as ending
-use Rattle.ctr_top.specs.Top.{EndsUnfailed, RanScript, RunCauses, ReportLeaves, Makes, command_told}
+use Rattle.ctr_load.specs.Generated.{generated}
+use Rattle.ctr_top.specs.Top.{EndsUnfailed, Loads, RanScript, RunCauses, ReportLeaves, Makes, command_told, work_of}
 use Rattle.ctr_top.proofs.CompleteLemmas.{complete_of, work_is}
-use Rattle.ctr_top.proofs.EndLemmas.{memory_only, minds_none, not_begun, prints, prints_any, work_back}
+use Rattle.ctr_top.proofs.EndLemmas.{memory_only, minds_none, not_begun, prints, prints_any, prints_load, work_back}
+use Rattle.ctr_top.proofs.LoadLemmas.{lines_asked, loads_refused}
 use Rattle.ctr_top.proofs.NothingDone.{ran_refused, causes_refused, makes_refused, reports_refused}
 use Rattle.ctr_top.proofs.run.run_serial.Goals as goal
 
@@ -18,7 +19,7 @@ pub returns-in-Err-clause-printed : goal.returns-in-Err-clause-printed
 returns-in-Err-clause-printed g c =
     let is = c.without_tape-outcome.ensures.ending ∙ c.not_asked.ensures in
     let none = subst (λ e. (e ≡ ending.Usage) ⊎ (e ≡ ending.OutOfMemory)) (sym is) (not_begun _ c.in-Err.why c.in-Err.ensures.unasked) in
-    prints_any g.K.Sink c.args.sink.now c.ending.new.sink c.ending.result c.without_tape-outcome.result c.ending.ensures.outcome c.ending.ensures.report none command.Run _ c.ending.ensures.printed
+    prints_any g.K.Sink c.args.sink.now c.ending.new.sink c.ending.result c.without_tape-outcome.result c.ending.ensures.outcome c.ending.ensures.report none c.without_tape-outcome.ensures.tape command.Run _ c.ending.ensures.printed
 
 pub returns-in-Err-clause-usage : goal.returns-in-Err-clause-usage
 returns-in-Err-clause-usage g c =
@@ -68,6 +69,28 @@ returns-in-Err-clause-report g c = λ is.
       leaves = subst (ReportLeaves d c.args.disk) (sym outcome) (reports_refused d g.met.D.Disk.earlier g.met.D.Disk.only_now c.args.disk c.without_tape-outcome.result t.disk t.tape t.undone memory);
       counts = λ base told stands fine. absurd (cc (sym fine ∙ ap (λ o. o.ending) outcome ∙ memory));
     }
+
+pub returns-in-Err-clause-loaded : goal.returns-in-Err-clause-loaded
+returns-in-Err-clause-loaded g c = λ frames sessions count seed is.
+    let d = g.D.Disk in
+    let t = c.without_tape-outcome.ensures in
+    subst (Loads d c.args.disk (generated sessions count seed)) (sym c.ending.ensures.outcome)
+    (loads_refused d g.met.D.Disk.earlier g.met.D.Disk.only_now c.args.disk (generated sessions count seed) c.without_tape-outcome.result t.disk t.tape t.undone t.totals (t.ending ∙ c.not_asked.ensures ∙ memory_only _ c.in-Err.why c.in-Err.ensures.unasked (Load frames sessions count seed) is))
+
+-- ---- a load
+
+pub returns-in-Load-clause-printed : goal.returns-in-Load-clause-printed
+returns-in-Load-clause-printed g c =
+    let e = c.ending-in-Load.ensures in
+    prints_load g.K.Sink c.args.sink.now c.ending-in-Load.new.sink c.ending-in-Load.result c.load-statements.result.1 e.outcome e.report _ _ _ c.load-statements.ensures.statements _
+    (sym (ap (λ a. command_told a c.ending-in-Load.result.survey) (c.in-Ok.ensures.asked ∙ ap Some c.in-Load.is))) e.printed
+
+pub returns-in-Load-clause-loaded : goal.returns-in-Load-clause-loaded
+returns-in-Load-clause-loaded g c = λ frames sessions count seed is.
+    let d = g.D.Disk in
+    let o = work_of c.ending-in-Load.result in
+    subst (λ ls. Loads d c.args.disk ls o) (ap lines_asked (sym (c.in-Ok.ensures.asked ∙ ap Some c.in-Load.is) ∙ is))
+    (subst (Loads d c.args.disk (generated c.in-Load.sessions c.in-Load.count c.in-Load.seed)) (sym c.ending-in-Load.ensures.outcome) c.load-statements.ensures.loads)
 
 -- ---- a report
 

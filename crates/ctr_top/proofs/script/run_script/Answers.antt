@@ -1,4 +1,4 @@
-use Rattle.std.proofs.Common.{◌≡◌, ◌≢◌, ◌∙◌, inl, sym, subst, ap, arith}
+use Rattle.std.proofs.Common.{◌≡◌, ◌∙◌, inl, sym, subst, ap, arith}
 use Rattle.ctr_model.specs.Tape.{statements_on, IsSerial}
 use Rattle.ctr_serial.proofs.Lists.{serial_front}
 use Rattle.ctr_database.specs.ctr_run.declared.ran.RunEnd.TheVariants as run

@@ -1,0 +1,30 @@
+use Rattle.std.proofs.Common.{◌∙◌, inl, inr, refl, sym, ap, subst}
+use Rattle.std.specs.Prelude.{length}
+use Rattle.ctr_database.specs.ctr_run.ctr_world.Opened.{CanRun}
+use Rattle.ctr_top.specs.Top.{Loads}
+use Rattle.ctr_top.proofs.LoadLemmas.{generated_runs, loads_ran, loads_refused}
+use Rattle.ctr_top.proofs.loading.load.Goals as goal
+
+pub run-ran-requires-clause-runs : goal.run-ran-requires-clause-runs
+run-ran-requires-clause-runs g c =
+    let law = c.generated_lines_are_of_the_language.ensures in
+    let a = c.args in
+    subst CanRun (sym c.in-Ok.ensures) (generated_runs law.spelled law.few a.sessions a.count a.seed c.requires.sessions.0 c.requires.sessions.1 c.requires.count)
+
+pub returns-in-Ok-clause-loads : goal.returns-in-Ok-clause-loads
+returns-in-Ok-clause-loads g c =
+    let d = g.D.Disk in
+    let r = c.run-ran.ensures in
+    subst (λ ls. Loads d c.args.disk ls (record { ending = c.ended.result; left = c.run-ran.result.left })) c.in-Ok.ensures
+    (loads_ran d c.args.disk c.in-Ok.script.lines c.run-ran.result c.ended.result c.ended.ensures r.order r.ran (r.serial refl) r.none r.ends r.counts r.complete)
+
+pub returns-in-Ok-clause-statements : goal.returns-in-Ok-clause-statements
+returns-in-Ok-clause-statements g c = inl (c.len-statements.ensures ∙ ap length c.in-Ok.ensures)
+
+pub returns-in-Err-clause-loads : goal.returns-in-Err-clause-loads
+returns-in-Err-clause-loads g c =
+    let t = c.without_tape.ensures in
+    loads_refused g.D.Disk g.met.D.Disk.earlier g.met.D.Disk.only_now c.args.disk _ c.without_tape.result t.disk t.tape t.undone t.totals t.ending
+
+pub returns-in-Err-clause-statements : goal.returns-in-Err-clause-statements
+returns-in-Err-clause-statements g c = inr c.without_tape.ensures.ending
