@@ -38,18 +38,22 @@ endures_itself : (p : State) → Endures p p
 endures_itself p = record { keeps = λ s t is. (t, is, λ name key has. has) }
 
 endures_then : (p q r : State) → Endures p q → Endures q r → Endures p r
-endures_then p q r first rest = record { keeps = λ s t is.
-    let u = first.keeps s t is in
-    let v = rest.keeps s u.0 u.1 in
-    (v.0, v.1, λ name key has. v.2 name key (u.2 name key has)) }
+endures_then p q r first rest = record {
+  keeps = λ s t is.
+      let u = first.keeps s t is in
+      let v = rest.keeps s u.0 u.1 in
+      (v.0, v.1, λ name key has. v.2 name key (u.2 name key has));
+}
 
 -- one session's transaction is another one, with its locks
 endures_with : (p : State) (s : ℕ) (u : Transaction) → ((t : Transaction) → transaction_of p s ≡ Some t → HasLocksOf t u) → Endures p (with_transaction s u p)
-endures_with p s u its = record { keeps = λ q t is. known (q == s)
-    (λ one.
-    let same = eqb-true q s one in
-    (u, ap (λ n. find nat_cmp n (put nat_cmp s u p.sessions)) same ∙ find-put-same s u p.sessions, its t (sym (ap (transaction_of p) same) ∙ is)))
-    (λ two. (t, find-put-other q s u p.sessions two ∙ is, λ name key has. has)) }
+endures_with p s u its = record {
+  keeps = λ q t is. known (q == s)
+      (λ one.
+      let same = eqb-true q s one in
+      (u, ap (λ n. find nat_cmp n (put nat_cmp s u p.sessions)) same ∙ find-put-same s u p.sessions, its t (sym (ap (transaction_of p) same) ∙ is)))
+      (λ two. (t, find-put-other q s u p.sessions two ∙ is, λ name key has. has));
+}
 
 -- a lock more leaves the others
 locked_more : (name table : List ℕ) (key other : ℤ) (t : Transaction) → has_lock name key t ≡ true → has_lock name key (with_lock (Some other) table t) ≡ true

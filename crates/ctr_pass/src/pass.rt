@@ -51,9 +51,7 @@ fn is_end(reply: &Reply) -> bool
 fn ends(tape: &[Entry], from: usize) -> bool
     ensures { result ≡ some_end (drop from tape.now) }
 {
-    tape.iter()
-        .skip(from)
-        .any(|entry| is_end(&entry.reply))
+    tape.iter().skip(from).any(|entry| is_end(&entry.reply))
 }
 
 impl Pass {
@@ -90,7 +88,11 @@ impl Pass {
     fn moved(self, to: Position, may_unlink: bool) -> Pass
         ensures { result ≡ pass_on may_unlink (Some to) self }
     {
-        let phase = if may_unlink { self.phase } else { Phase::Disturbed };
+        let phase = if may_unlink {
+            self.phase
+        } else {
+            Phase::Disturbed
+        };
         Pass {
             at: to,
             next: self.next,

@@ -19,8 +19,7 @@ pub use ctr_undamaged::{
     a_version_entry_is_read_without_damage,
 };
 pub use ctr_views::{
-    ReadRefusal, SchemaRefusal, a_scan_gives_the_table, an_action_meets_its_needs, schema,
-    table_on,
+    ReadRefusal, SchemaRefusal, a_scan_gives_the_table, an_action_meets_its_needs, schema, table_on,
 };
 pub use ctr_walk::an_entry_has_columns;
 pub use key::row_of_key;

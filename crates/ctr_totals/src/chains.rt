@@ -14,10 +14,10 @@ ghost use Rattle.ctr_totals.specs.Facts.{number_along, number_at};
 use crate::facts::{is_committed, seen_in};
 use crate::looking::{look_older, look_slot};
 use ctr_base::Origin;
+use ctr_cursor::a_place_of_a_table_fits;
 use ctr_disk::{Disk, StoreFault};
 use ctr_page::Place;
 use ctr_store::Store;
-use ctr_cursor::a_place_of_a_table_fits;
 
 /// As many version entries as stand on all pages that can be counted: no chain has more.
 const MOST_OLDER: u32 = 5_100_000;

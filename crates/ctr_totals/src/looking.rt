@@ -13,11 +13,11 @@ ghost use Rattle.ctr_totals.specs.Facts.{IsKnownSlot, IsKnownOlder};
 
 use crate::facts::{OlderFacts, SlotFacts, older_facts, slot_facts};
 use ctr_base::Origin;
+use ctr_cursor::{a_row_is_read_without_damage, a_version_entry_is_read_without_damage};
 use ctr_disk::{Disk, StoreFault};
 use ctr_page::Place;
 use ctr_pvs::{row, version};
 use ctr_store::Store;
-use ctr_cursor::{a_row_is_read_without_damage, a_version_entry_is_read_without_damage};
 
 /// What there is to know of the slot at a place.
 pub(crate) fn look_slot<D: Disk, O: Origin>(

@@ -15,7 +15,6 @@ use Rattle.ctr_cursor.specs.Standing.{IsInChain, IsOfChain, is_item_of}
 use Rattle.ctr_cursor.proofs.Named.{chain_alone, chain_fine, chain_headed, chain_named, items_have, items_lack}
 use Rattle.ctr_cursor.proofs.there.is_in_chain.Goals as goal
 
-
 -- by the header of a page that is allocated, and that no item has
 answers_yes : (s : State) (database : IsDatabaseState s) (chain : Chain) (p : ℕ) → 3 ≤ p → (area_in s).taken p ≡ true → list_any (is_item_of p) s.tables.items ≡ false → (r : Result Bool StoreFault)
     → IfOk r (λ is. is ≡ true → IsOfChain chain ((area_in s).header p)) → IfOk r (λ is. is ≡ true → IsInChain chain p (area_in s))
