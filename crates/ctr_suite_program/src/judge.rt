@@ -4,6 +4,7 @@ ghost use Rattle.ctr_model.specs.Tape.{at_start};
 
 use crate::databases::{Right, probing};
 use crate::lists::add;
+use crate::loads::load_script;
 use crate::run::play;
 use crate::setup::{Ask, Ran, Setup, plain_report, plain_run, plain_turns};
 use ctr_io::MemSource;
@@ -22,6 +23,14 @@ fn script_of(alloc: Global, bytes: &[u8]) -> Result<Script, OutOfMemory> {
     let script = script_in(alloc, &mut source);
     drop(source);
     Ok(script)
+}
+
+// The script that a setup has, or generates.
+fn lines_of(alloc: Global, setup: &Setup) -> Result<Script, OutOfMemory> {
+    if setup.is_command("load") {
+        return load_script(alloc, setup);
+    }
+    script_of(alloc, &setup.script)
 }
 
 fn script_in(alloc: Global, source: &mut MemSource) -> Script {
@@ -152,7 +161,7 @@ fn led_with(
     setup: &Setup,
     ran: &Ran,
 ) -> Result<Option<Right>, OutOfMemory> {
-    let script = script_of(alloc, &setup.script)?;
+    let script = lines_of(alloc, setup)?;
     let led = led_by(alloc, right, stuck, script.lines.as_slice(), ran);
     drop(script);
     led

@@ -10,6 +10,7 @@ mod device;
 mod generated;
 mod judge;
 mod lists;
+mod loads;
 mod meetings;
 mod numbers;
 mod page;

@@ -3,14 +3,28 @@ use crate::page::Page;
 use crate::setup::{Ran, Setup};
 use ctr_io::MemSink;
 use ctr_model::{Cause, Command, Report};
-use ctr_print::put_run;
+use ctr_print::{Printer, put_last_line, put_run};
 use ctr_types::{List, Reply, Tape};
 use std::alloc::Global;
 
 /// The status of work that came to its end, and whose text couldn't be put.
 const WRITE_FAULT: u8 = 7;
 
-/// The transcript of a tape, and the last line of a command.
+// Puts the last line alone.
+fn put_end(
+    sink: &mut MemSink,
+    command: &Command,
+    status: u8,
+    cause: &Cause,
+    tape: &Tape,
+    report: &Report,
+) -> bool {
+    let mut out = Printer::new(sink);
+    put_last_line(&mut out, command, status, cause, tape, report);
+    out.finish()
+}
+
+/// The transcript of a tape, and the last line of a command; of a load that alone.
 pub fn printing_of(
     alloc: Global,
     command: &Command,
@@ -21,7 +35,10 @@ pub fn printing_of(
 ) -> Vec<u8> {
     let mut sink = MemSink::new(alloc, List::new(alloc));
     let work = if status == WRITE_FAULT { 0 } else { status };
-    let _ = put_run(&mut sink, command, work, cause, tape, report);
+    let _ = match command {
+        Command::Load { .. } => put_end(&mut sink, command, work, cause, tape, report),
+        _ => put_run(&mut sink, command, work, cause, tape, report),
+    };
     sink.into_bytes()
 }
 

@@ -6,6 +6,7 @@ ghost use Rattle.std.specs.Prelude.{◌<◌, ◌≤◌};
 
 use crate::calls::{counts_of, images_of, listing_of, moments_of};
 use crate::device::{play_calls, play_root};
+use crate::loads::{sessions_of, statements_of};
 use crate::printed::printing_of;
 use crate::setup::{Ask, Ran, Seen, Setup, UNCOUNTED, Work};
 use ctr_disk::Disk;
@@ -106,12 +107,18 @@ fn turns_plainly<D: Disk, S: Source>(
 }
 
 // The command whose last line was to be printed.
-fn command_of(setup: &Setup, survey: Survey) -> Command {
+fn command_of(setup: &Setup, survey: Survey, statements: u64) -> Command {
     if setup.is_command("init") {
         return Command::Init;
     }
     if setup.is_command("report") {
         return Command::Survey { start: survey };
+    }
+    if setup.is_command("load") {
+        return Command::Load {
+            sessions: sessions_of(setup),
+            statements,
+        };
     }
     Command::Run
 }
@@ -179,9 +186,11 @@ fn command_put(
     source: &mut MemSource,
     sink: &mut MemSink,
 ) -> Result<Ran, AllocError> {
+    let statements = statements_of(alloc, setup)?;
     let disk = disk_of(alloc, setup)?;
     let left = run_plainly(alloc, &setup.words, disk, source, sink);
-    let seen = seen_of(alloc, &command_of(setup, left.survey), &left, ask);
+    let command = command_of(setup, left.survey, statements);
+    let seen = seen_of(alloc, &command, &left, ask);
     let text = sink.bytes().to_vec(alloc);
     let survey = left.survey;
     ran_of(left.ending.status(), survey, tape_of(left), text, seen)
