@@ -47,11 +47,21 @@ fn is_end(reply: &Reply) -> bool
     }
 }
 
-/// Whether a transaction ends by an entry of a tape, from one on.
+/// Whether a transaction ends by one of these entries.
+fn some_ends(entries: &[Entry]) -> bool
+    ensures { result ≡ some_end entries.now }
+{
+    entries.iter().any(|entry| is_end(&entry.reply))
+}
+
+/// Whether a transaction ends by an entry of a tape, from one on. Those before it aren't looked at.
 fn ends(tape: &[Entry], from: usize) -> bool
     ensures { result ≡ some_end (drop from tape.now) }
 {
-    tape.iter().skip(from).any(|entry| is_end(&entry.reply))
+    match tape.get(from..) {
+        Some(behind) => some_ends(behind),
+        None => false,
+    }
 }
 
 impl Pass {
