@@ -1,3 +1,4 @@
 pub mod Joined
 pub mod Found
 pub mod Bare
+pub mod Moved

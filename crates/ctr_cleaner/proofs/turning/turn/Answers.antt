@@ -1,22 +1,19 @@
 use Rattle.std.proofs.Common.{◌≡◌, Option, None, Some, Ok, Err, refl, sym, ◌∙◌, ap, subst}
-use Rattle.std.specs.Prelude.{IfSome}
 use Rattle.ctr_disk.specs.declared.fault.StoreFault.TheVariants.{Fault}
-use Rattle.ctr_meta.specs.Kept.{TablesKept}
 use Rattle.ctr_redo.specs.States.{State}
 use Rattle.ctr_record_effects.specs.Standing.{IsDatabaseState}
 use Rattle.ctr_actions.specs.Sites.{site_of}
 use Rattle.ctr_walk.proofs.Damages.{reads_err}
 use Rattle.ctr_walk.proofs.Joins.{answers_ok}
-use Rattle.ctr_page_turns.specs.Rooms.{AddsItems}
 use Rattle.ctr_page_turns.specs.Turns.{Reads}
 use Rattle.ctr_cursor.specs.declared.position.Position.{Position}
-use Rattle.ctr_cursor.specs.Pass.{next_position}
-use Rattle.ctr_cursor.specs.Standing.{IsPosition, IsCountedPosition}
+use Rattle.ctr_cursor.specs.Standing.{IsPosition}
 use Rattle.ctr_cleaner.specs.declared.done.CleanTurn.{CleanTurn}
 use Rattle.ctr_cleaner.specs.declared.done.CleanTurn.TheVariants.{Moved, Over}
 use Rattle.ctr_cleaner.specs.Turning.{heeding, TurnsAt, next_cleaned, LeavesRoomBy, IsWithin}
 use Rattle.ctr_cleaner.specs.Parts.{DidAt, IsPassed}
 use Rattle.ctr_cleaner.proofs.Joined.{part_told}
+use Rattle.ctr_cleaner.proofs.Moved.{moved_counts, moved_by}
 use Rattle.ctr_cleaner.proofs.Found.{ok_told, told_numbers, told_left, told_within, told_did}
 use Rattle.ctr_cleaner.proofs.turning.turn.Goals as goal
 
@@ -79,27 +76,21 @@ returns-in-Ok-None-advance g c =
     let first = g.O.Origin.first in
     let old = c.args.store.now in
     let mid = c.clean_first.new.store in
+    let new = c.advance.new.store in
     let s = old.now in
     let x = c.args.at in
     let h = heeding c.args.low c.args.locks.now c.args.spared c.args.may in
     let r = c.clean_first.result in
     let is = c.in-Ok-None.is ∙ ap Ok c.in-Ok-None.field-0-is in
     let part = part_told first g.D.Disk c.args.may.unlink old mid r r (Ok None) refl is c.clean_first.ensures.tries in
-    let page = c.a_part_goes_on.ensures.read c.args.may.unlink first old mid part in
     let moved = c.in-Ok-None-advance in
     let leaves = moved.ensures.leaves in
     record {
-      turns = c.a_turn_goes_on.ensures.behind first old mid c.advance.new.store None (Ok Over) page (Reads (answers_ok first g.D.Disk moved.field-0 Over mid c.advance.new.store leaves));
-      counts = record {
-        numbers = leaves.keeps.next ∙ part.numbers;
-        room = subst (λ (m : TablesKept). AddsItems 0 old.meta m) (sym leaves.keeps.meta) part.left;
-        counted = leaves.keeps.counted ∙ part.counted;
-        within = tt;
-      };
-      cleans = λ told sound database its.
-          let did = ok_told (DidAt h x (IsPassed h x s) s mid.now) r r None refl is (c.clean_first.ensures.cleans told sound database its) in
-          let next = subst (λ (u : State). moved.field-0 ≡ next_position (site_of u) x) did.0 (moved.ensures.next told sound) in
-          record { same = (leaves.logs told sound).now ∙ did.0; free = did.1.0; nothing = did.1.1; behind = sym next ∙ moved.field-0-is };
+      turns = c.a_turn_goes_on.ensures.behind first old mid new None (Ok Over) (c.a_part_goes_on.ensures.read c.args.may.unlink first old mid part)
+          (Reads (answers_ok first g.D.Disk moved.field-0 Over mid new leaves));
+      counts = moved_counts first g.D.Disk c.args.may old mid new moved.field-0 None moved.field-0-is part leaves moved.ensures.inside;
+      cleans = λ told sound database its. moved_by h x s mid.now new.now moved.field-0 None moved.field-0-is
+          (ok_told (DidAt h x (IsPassed h x s) s mid.now) r r None refl is (c.clean_first.ensures.cleans told sound database its)) (leaves.logs told sound).now (moved.ensures.next told sound);
       refused = λ told sound database its. tt;
     }
 
@@ -108,26 +99,20 @@ returns-in-Ok-Some-advance g c =
     let first = g.O.Origin.first in
     let old = c.args.store.now in
     let mid = c.clean_first.new.store in
+    let new = c.advance.new.store in
     let s = old.now in
     let x = c.args.at in
     let h = heeding c.args.low c.args.locks.now c.args.spared c.args.may in
     let r = c.clean_first.result in
     let is = c.in-Ok-None.is ∙ ap Ok c.in-Ok-None.field-0-is in
     let part = part_told first g.D.Disk c.args.may.unlink old mid r r (Ok None) refl is c.clean_first.ensures.tries in
-    let page = c.a_part_goes_on.ensures.read c.args.may.unlink first old mid part in
     let moved = c.in-Ok-Some-advance in
     let leaves = moved.ensures.leaves in
     record {
-      turns = c.a_turn_goes_on.ensures.behind first old mid c.advance.new.store None (Ok (Moved moved.to)) page (Reads (answers_ok first g.D.Disk moved.field-0 (Moved moved.to) mid c.advance.new.store leaves));
-      counts = record {
-        numbers = leaves.keeps.next ∙ part.numbers;
-        room = subst (λ (m : TablesKept). AddsItems 0 old.meta m) (sym leaves.keeps.meta) part.left;
-        counted = leaves.keeps.counted ∙ part.counted;
-        within = subst (λ n. IsCountedPosition n moved.to) (sym leaves.keeps.counted) (subst (λ (o : Option Position). IfSome o (IsCountedPosition mid.now.counted)) moved.field-0-is moved.ensures.inside);
-      };
-      cleans = λ told sound database its.
-          let did = ok_told (DidAt h x (IsPassed h x s) s mid.now) r r None refl is (c.clean_first.ensures.cleans told sound database its) in
-          let next = subst (λ (u : State). moved.field-0 ≡ next_position (site_of u) x) did.0 (moved.ensures.next told sound) in
-          record { same = (leaves.logs told sound).now ∙ did.0; free = did.1.0; nothing = did.1.1; behind = sym next ∙ moved.field-0-is };
+      turns = c.a_turn_goes_on.ensures.behind first old mid new None (Ok (Moved moved.to)) (c.a_part_goes_on.ensures.read c.args.may.unlink first old mid part)
+          (Reads (answers_ok first g.D.Disk moved.field-0 (Moved moved.to) mid new leaves));
+      counts = moved_counts first g.D.Disk c.args.may old mid new moved.field-0 (Some moved.to) moved.field-0-is part leaves moved.ensures.inside;
+      cleans = λ told sound database its. moved_by h x s mid.now new.now moved.field-0 (Some moved.to) moved.field-0-is
+          (ok_told (DidAt h x (IsPassed h x s) s mid.now) r r None refl is (c.clean_first.ensures.cleans told sound database its)) (leaves.logs told sound).now (moved.ensures.next told sound);
       refused = λ told sound database its. tt;
     }
