@@ -1,5 +1,5 @@
 -- Commits are answered, the one that asked first or all that wait, whoever flushed.
-use Rattle.std.proofs.Common.{◌≡◌, ⊎_elim, inl, inr, None, ℕ, zero, suc, ◌+◌, ◌<◌, ◌≤◌, ◌==◌, List, [], ◌∷◌, ◌++◌, length, Option, Some, refl, sym, ◌∙◌, ap, subst, arith}
+use Rattle.std.proofs.Common.{◌≡◌, ⊎_elim, inl, inr, None, ℕ, zero, suc, ◌+◌, ◌<◌, ◌≤◌, ◌==◌, List, [], ◌∷◌, ◌++◌, length, true, Option, Some, refl, sym, ◌∙◌, ap, subst, arith}
 use Rattle.std.specs.Prelude.{is_some}
 use Rattle.std.specs.Option.{option_map}
 use Rattle.std.specs.Ordering.{nat_cmp}
@@ -20,18 +20,24 @@ use Rattle.ctr_model.specs.Tape.{progress_of, statement_of, final, at_start}
 use Rattle.ctr_model.proofs.Sessions.{find-without-other, find-without-same}
 use Rattle.ctr_legal.specs.Laws.{answer_entry, IsAnsweredNext}
 use Rattle.ctr_legal.proofs.Reached.{waiting_answered, final_push}
-use Rattle.ctr_versions.proofs.Keys.{known}
+use Rattle.ctr_meta.specs.Tables.{Tables, is_in}
+use Rattle.ctr_versions.proofs.Keys.{known, some_is}
 use Rattle.ctr_versions.specs.Engine.{SessionHeld}
 use Rattle.ctr_versions.specs.Laws.{IsNoSessions}
+use Rattle.ctr_versions.specs.Xids.{number_of}
 use Rattle.ctr_paged.specs.actions_Sites.{Site}
 use Rattle.ctr_paged.specs.actions_Facts.{Fact}
+use Rattle.ctr_paged.specs.Paged.{xids_of}
 use Rattle.ctr_paged.specs.Shown.{Scene}
 use Rattle.ctr_paged.specs.Moving.{answered_one}
 use Rattle.ctr_paged.proofs.Shown.{shown_answered}
+use Rattle.ctr_paged.proofs.Tables.{agree}
+use Rattle.ctr_paged.proofs.record_laws_Heads.{listed_open}
 use Rattle.ctr_kept.specs.Carried.{AreCarried}
 use Rattle.ctr_kept.specs.Turns.{AnswersEach}
 use Rattle.ctr_kept.specs.Walk.{Mind, scene_of, HaveBegun, KeepsScene, Keeps}
 use Rattle.ctr_kept.proofs.Rolling.{rolls_moved}
+use Rattle.ctr_kept.specs.Undo.{IsSessions}
 use Rattle.ctr_kept.proofs.Undo.{left_moved}
 use Rattle.ctr_kept.proofs.Walking.{begun_moved, keeps_reached, keeps_entry}
 
@@ -51,6 +57,10 @@ carried_fewer s site scene facts carried = record {
 
 nobodys_fewer : (s y : ℕ) (sessions : List (ℕ × SessionHeld)) → IsNoSessions sessions y → IsNoSessions (without nat_cmp s sessions) y
 nobodys_fewer s y sessions nobodys r b at = nobodys r b (still_there s r b sessions at)
+
+-- who has a commit number isn't open
+numbered_closed : (tables : Tables) (commits : List ℕ) (x k : ℕ) → number_of (xids_of tables commits) x ≡ Some k → is_in x tables.opens ≡ true → ⊥
+numbered_closed tables commits x k is open_ = false≢true (sym (listed_open tables x (inl open_)) ∙ sym (agree tables commits x) ∙ ap is_some is)
 
 begun_fewer : (s : ℕ) (since : List (ℕ × ℕ)) (scene : Scene) → HaveBegun since scene → HaveBegun (without nat_cmp s since) (answered_one s scene)
 begun_fewer s since scene begun = begun_moved s since (without nat_cmp s since) scene (answered_one s scene)
@@ -87,6 +97,14 @@ module _ (lines : List Line) (moment : ℕ) (base : Database) (stuck : List (Lis
       leads s next = ap (λ (p : Point). p.state) (final_push lines (at_start moment base stuck) w.tape (answer_entry point s later))
           ∙ ap (λ (o : Option Transaction). next_from point.state s o act.Answer (statement_of lines s ((progress_of point s).finished + 1)) (reply.Answered (point.state.answered + 1))) next.there
 
+      -- the one who goes asked for a commit, so its number isn't open
+      seats : (s : ℕ) → IsAnsweredNext lines point later s → (y : ℕ) → is_in y site.tables.opens ≡ true → IsSessions w.run.sessions y → IsSessions (without nat_cmp s w.run.sessions) y
+      seats s next y open_ its = known (its.s == s)
+          (λ one. let held = keeps.scene.shown.paged.shows.inside s next.me next.there in
+          let same = some_is its.session held.0 (sym its.at ∙ ap (λ q. find nat_cmp q w.run.sessions) (eqb-true its.s s one) ∙ held.1) in
+          absurd (numbered_closed site.tables w.run.commits y (point.state.answered + 1) (subst (λ x. number_of (xids_of site.tables w.run.commits) x ≡ Some (point.state.answered + 1)) (sym (ap (λ (d : SessionHeld). d.me) same) ∙ its.me) (held.2.asked (point.state.answered + 1) next.asked)) open_))
+          (λ two. record { s = its.s; session = its.session; at = find-without-other its.s s w.run.sessions two ∙ its.at; me = its.me })
+
       one : (s : ℕ) → IsAnsweredNext lines point later s → Keeps lines (at_start moment base stuck) size later site (answered_mind s later)
       one s next = keeps_entry lines moment base stuck size now site w keeps (answer_entry point s later) site (answered_mind s later) next.comes refl
           (subst (λ (o : Option Transaction). KeepsScene size site (answered_mind s later) (record { run = (answered_mind s later).run; state = next_from point.state s o act.Answer (statement_of lines s ((progress_of point s).finished + 1)) (reply.Answered (point.state.answered + 1)) })) (sym next.there) (record {
@@ -94,7 +112,7 @@ module _ (lines : List Line) (moment : ℕ) (base : Database) (stuck : List (Lis
             shown = shown_answered keeps.scene.low site scene keeps.scene.shown s (point.state.answered + 1) next.me next.there next.asked more;
             begun = begun_fewer s w.since scene keeps.scene.begun;
             carried = carried_fewer s site scene w.facts keeps.scene.carried;
-            undo = (left_moved site.tables w.run.sessions w.undo keeps.scene.undo.0 (without nat_cmp s w.run.sessions) (λ y in_. nobodys_fewer s y w.run.sessions (keeps.scene.undo.0.nobodys y in_)), keeps.scene.undo.1);
+            undo = (left_moved site.tables w.run.sessions w.undo keeps.scene.undo.0 (without nat_cmp s w.run.sessions) (λ y in_. nobodys_fewer s y w.run.sessions (keeps.scene.undo.0.nobodys y in_)) (seats s next), keeps.scene.undo.1);
           }))
           (rolls_moved lines point (answer_entry point s later) next.comes w.run (answered_mind s later).run keeps.rolls (λ r two. find-without-other r s w.run.sessions two)
           (λ b at undoing. absurd (false≢true (ap is_some (sym (find-without-same s w.run.sessions) ∙ at)))))

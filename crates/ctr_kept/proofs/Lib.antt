@@ -11,6 +11,7 @@ pub mod Beginning
 pub mod Answering
 pub mod Nobody
 pub mod Rolling
+pub mod Seated
 pub use Rattle.ctr_paged.proofs.Opened as paged_Opened
 pub use Rattle.ctr_legal.proofs.Answered as legal_Answered
 pub use Rattle.ctr_legal.proofs.Tapes as legal_Tapes

@@ -44,7 +44,7 @@ use Rattle.ctr_paged.proofs.actions_Order.{undone_goes}
 use Rattle.ctr_kept.specs.Undo.{IsUndoLeft, CountsTo, SparesUndo}
 use Rattle.ctr_kept.specs.Walk.{Mind, scene_of, HaveBegun, KeepsScene, Keeps}
 use Rattle.ctr_kept.proofs.Carried.{AnotherLeaves, carried_all}
-use Rattle.ctr_kept.proofs.LeftBy.{left_by}
+use Rattle.ctr_kept.proofs.LeftBy.{drawn_seat, left_by}
 use Rattle.ctr_kept.proofs.Rolling.{rolls_same}
 use Rattle.ctr_kept.proofs.Undo.{with_latest, left_item, item_is_last, orphan_owes, left_orphan, counts_item, counts_orphan}
 use Rattle.ctr_kept.proofs.Walking.{keeps_reached, keeps_on, keeps_entry}
@@ -275,7 +275,7 @@ module _ (leaves : AnotherLeaves) (lines : List Line) (moment : ℕ) (base : Dat
         begun = record { since_is = keeps.scene.begun.since_is; drawn = keeps.scene.begun.drawn };
         carried = carried_all leaves site paged.bounds paged.few paged.sound site.tables.next a owed scene scene w.facts keeps.scene.carried refl refl
             (λ r c at_c. paged.modelled r c at_c) (λ r t is_t. let one = paged.shows.inside r t is_t in (one.0, one.1)) (λ r c at_c same. next_nobodys r c at_c same) away;
-        undo = (left_by site paged.bounds paged.sound w.run.sessions w.undo left site.tables.next next_no_orphan a owed spares, keeps.scene.undo.1);
+        undo = (left_by site paged.bounds paged.sound w.run.sessions w.undo left site.tables.next next_no_orphan a owed spares w.run.sessions left.nobodys (λ y open_ its. its) (drawn_seat low site.tables.next a site scene scene to), keeps.scene.undo.1);
       })
       keeps.rolls
 

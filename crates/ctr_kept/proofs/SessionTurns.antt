@@ -1,5 +1,5 @@
 -- Whole turns of a session: what is kept before one is kept behind it.
-use Rattle.std.proofs.Common.{◌≡◌, ◌≢◌, ℕ, ◌+◌, ◌<◌, ◌≤◌, ◌==◌, true, false, List, [], ◌∷◌, ◌++◌, length, inl, ⊎_elim, Option, Some, None, refl, sym, ◌∙◌, ap, subst, arith}
+use Rattle.std.proofs.Common.{◌≡◌, ◌⊎◌, ◌≢◌, ℕ, ◌+◌, ◌<◌, ◌≤◌, ◌==◌, true, false, List, [], ◌∷◌, ◌++◌, length, inl, inr, ⊎_elim, Option, Some, None, refl, sym, ◌∙◌, ap, subst, arith}
 use Rattle.std.specs.Prelude.{is_some}
 use Rattle.std.specs.Option.{option_map}
 use Rattle.std.specs.Ordering.{nat_cmp}
@@ -29,20 +29,25 @@ use Rattle.ctr_versions.proofs.Keys.{known, some_is}
 use Rattle.ctr_versions.specs.Engine.{SessionHeld}
 use Rattle.ctr_versions.specs.Laws.{IsGranted, with_own}
 use Rattle.ctr_paged.specs.sessions_Sessions.{IsDrawnFor}
-use Rattle.ctr_paged.specs.area_Sound.{IsAmong}
+use Rattle.ctr_meta.specs.Tables.{is_in, without_xid}
+use Rattle.ctr_paged.specs.area_Sound.{IsAmong, xids_in}
 use Rattle.ctr_paged.specs.record_laws_Bounds.{IsInBounds}
 use Rattle.ctr_paged.proofs.record_laws_Heads.{listed_drawn}
+use Rattle.ctr_paged.proofs.record_laws_Leaving.{once_less}
+use Rattle.ctr_paged.proofs.record_laws_Xids.{in_among, once_parts}
 use Rattle.ctr_paged.specs.actions_Sites.{Site}
 use Rattle.ctr_paged.specs.actions_Actions.{Action, Begins, Commits, Aborts, Owes, site_after}
 use Rattle.ctr_paged.specs.actions_Facts.{Fact, HoldsFact}
 use Rattle.ctr_paged.specs.Paged.{Run}
 use Rattle.ctr_paged.specs.Shown.{Scene}
-use Rattle.ctr_paged.specs.Moving.{held_as, with_its, without_its, begun_now, HoldsAll, MovesTo}
+use Rattle.ctr_paged.specs.Moving.{held_as, with_its, without_its, begun_now, HoldsAll, DrawsNumber, MovesTo}
 use Rattle.ctr_paged.proofs.Shown.{shown_begun, shown_granted, shown_ended, shown_undoing}
 use Rattle.ctr_kept.specs.Carried.{IsUnderLock, Covers}
 use Rattle.ctr_kept.specs.Turns.{Carries}
+use Rattle.ctr_kept.specs.Undo.{IsSessions}
 use Rattle.ctr_kept.specs.Walk.{Mind, scene_of, with_facts, KeepsScene, IsAtRollback, AreAtRollback, Keeps}
 use Rattle.ctr_kept.proofs.Carried.{AnotherLeaves}
+use Rattle.ctr_kept.proofs.Opening.{opened_by}
 use Rattle.ctr_kept.proofs.Rolling.{rolled_back, rolls_or_answered, rolls_moved, rolls_on, rolls_same}
 use Rattle.ctr_kept.proofs.Turning.{MovesOne, silent_scene, action_scene}
 use Rattle.ctr_kept.proofs.Walking.{keeps_reached, keeps_on, keeps_entry}
@@ -68,8 +73,9 @@ module _ (lines : List Line) (moment : ℕ) (base : Database) (stuck : List (Lis
   -- it goes on, held so, in this transaction of the same snapshot; of the others nothing has changed
   goes_moves : (c : SessionHeld) (u : Transaction) (mine : List Fact) (run : Run) (state : State) (next : Site) → ((r : ℕ) → (r == s) ≡ false → find nat_cmp r run.sessions ≡ find nat_cmp r w.run.sessions) → find nat_cmp s run.sessions ≡ Some c
       → ((r : ℕ) → (r == s) ≡ false → transaction_of state r ≡ transaction_of point.state r) → transaction_of state s ≡ Some u
-      → u.snapshot ≡ me.snapshot → IsDrawnFor c u → Carries c.me u mine next → (IsAmong c.me w.undo.orphans → ⊥) → MovesOne s w w.since mine scene (record { run = run; state = state }) next
-  goes_moves c u mine run state next sessions here transactions there snapshot drawn carries not_orphan = record {
+      → u.snapshot ≡ me.snapshot → IsDrawnFor c u → Carries c.me u mine next → (IsAmong c.me w.undo.orphans → ⊥) → (is_in b.me next.tables.opens ≡ true → IsSessions run.sessions b.me)
+      → MovesOne s w w.since mine scene (record { run = run; state = state }) next
+  goes_moves c u mine run state next sessions here transactions there snapshot drawn carries not_orphan seat = record {
     sessions = sessions;
     transactions = transactions;
     snapshots = λ r two. refl;
@@ -79,6 +85,8 @@ module _ (lines : List Line) (moment : ℕ) (base : Database) (stuck : List (Lis
     under = λ t fact is_t in_. subst (λ v. IsUnderLock v fact next) (u_is t is_t) (carries.held fact in_).1;
     tables = carries.tables;
     not_orphan = λ d at_d in_. not_orphan (subst (λ (a : SessionHeld). IsAmong a.me w.undo.orphans) (sym (c_is d at_d)) in_);
+    seats = λ d at_d open_. let is = some_is b d (sym at ∙ at_d) in
+        subst (λ (a : SessionHeld). IsSessions run.sessions a.me) is (seat (subst (λ (a : SessionHeld). is_in a.me next.tables.opens ≡ true) (sym is) open_));
   }
     where
       c_is : (d : SessionHeld) → find nat_cmp s run.sessions ≡ Some d → c ≡ d
@@ -91,14 +99,15 @@ module _ (lines : List Line) (moment : ℕ) (base : Database) (stuck : List (Lis
   same_moves : (u : Transaction) (mine : List Fact) (run : Run) (state : State) (next : Site) → run.sessions ≡ w.run.sessions → ((r : ℕ) → (r == s) ≡ false → transaction_of state r ≡ transaction_of point.state r) → transaction_of state s ≡ Some u
       → u.snapshot ≡ me.snapshot → IsDrawnFor b u → Carries b.me u mine next → MovesOne s w w.since mine scene (record { run = run; state = state }) next
   same_moves u mine run state next runs others there snapshot drawn carries = goes_moves b u mine run state next (λ r two. ap (find nat_cmp r) runs) (ap (find nat_cmp s) runs ∙ at) others there snapshot drawn carries no_orphan
+      (λ open_. record { s = s; session = b; at = ap (find nat_cmp s) runs ∙ at; me = refl })
 
   -- its transaction is another one, the others' are as they were
   its_moves : (u : Transaction) (mine : List Fact) (next : Site) → u.snapshot ≡ me.snapshot → IsDrawnFor b u → Carries b.me u mine next → MovesOne s w w.since mine scene (with_its s u scene) next
   its_moves u mine next snapshot drawn carries = same_moves u mine w.run (with_transaction s u point.state) next refl (λ r two. find-put-other r s u point.state.sessions two) (find-put-same s u point.state.sessions) snapshot drawn carries
 
-  -- the session's transaction ends
-  gone_moves : (next : Site) → MovesOne s w (without nat_cmp s w.since) [] scene (without_its s scene) next
-  gone_moves next = record {
+  -- the session's transaction ends, and its number isn't open any more
+  gone_moves : (next : Site) → (is_in b.me next.tables.opens ≡ true → ⊥) → MovesOne s w (without nat_cmp s w.since) [] scene (without_its s scene) next
+  gone_moves next gone = record {
     sessions = λ r two. find-without-other r s w.run.sessions two;
     transactions = λ r two. find-without-other r s point.state.sessions two;
     snapshots = λ r two. find-without-other r s w.since two;
@@ -108,6 +117,7 @@ module _ (lines : List Line) (moment : ℕ) (base : Database) (stuck : List (Lis
     under = λ t fact is_t in_. absurd in_;
     tables = λ fact e in_ is. absurd in_;
     not_orphan = λ c at_c in_. absurd (false≢true (ap is_some (sym (find-without-same s w.run.sessions) ∙ at_c)));
+    seats = λ d at_d open_. absurd (gone (subst (λ (a : SessionHeld). is_in a.me next.tables.opens ≡ true) (sym (some_is b d (sym at ∙ at_d))) open_));
   }
 
   -- the scene once it asks
@@ -140,7 +150,8 @@ module _ (lines : List Line) (moment : ℕ) (base : Database) (stuck : List (Lis
       keeps_on lines moment base stuck size now site w keeps later site v le refl
       (silent_scene size site w scene keeps.scene s w.since mine v refl refl refl (record { run = held_as s c w.run; state = point.state })
       (goes_moves c me mine (held_as s c w.run) point.state site (λ r two. find-put-other r s c w.run.sessions two) (find-put-same s c w.run.sessions) (λ r two. refl) is_me refl
-      (let was = keeps.scene.begun.drawn s me b is_me at in record { writer = was.writer; reader = was.reader }) (record { held = carries.held; tables = carries.tables }) no_orphan)
+      (let was = keeps.scene.begun.drawn s me b is_me at in record { writer = was.writer; reader = was.reader }) (record { held = carries.held; tables = carries.tables }) no_orphan
+      (λ open_. record { s = s; session = c; at = find-put-same s c w.run.sessions; me = refl }))
       (shown_undoing keeps.scene.low site scene keeps.scene.shown s b me at is_me))
       (λ r d at_d undoing. known (r == s)
       (λ one. subst (IsAtRollback lines point) (sym (eqb-true r s one)) rolling)
@@ -215,12 +226,34 @@ module _ (lines : List Line) (moment : ℕ) (base : Database) (stuck : List (Lis
         (action_scene size site w scene keeps.scene s w.since mine v refl refl refl (record { run = held_as s c w.run; state = with_transaction s u point.state }) leaves legal me site.tables.next Begins is_me owed tt
         (λ r d two at_d same. beyond d.me (keeps.scene.shown.paged.shows.below r d at_d) same) new_one bounds moves
         (goes_moves c u mine (held_as s c w.run) (with_transaction s u point.state) (site_after site.tables.next Begins site) (λ r two. find-put-other r s c w.run.sessions two) (find-put-same s c w.run.sessions)
-        (λ r two. find-put-other r s u point.state.sessions two) (find-put-same s u point.state.sessions) snapshot drawn carries new_one))
+        (λ r two. find-put-other r s u point.state.sessions two) (find-put-same s u point.state.sessions) snapshot drawn carries new_one
+        (λ open_. absurd (none_open (opened_by b.me site.tables.next Begins site open_)))))
         (rolls_on lines point (entry act.Lock reply.Granted) comes w.run (held_as s c w.run) keeps.rolls (λ r two. find-put-other r s c w.run.sessions two)
         (λ d at_d undoing. (b, at, ap (λ (f : SessionHeld). f.undoing) (some_is c d (sym (find-put-same s c w.run.sessions) ∙ at_d)) ∙ undoing)) (λ is. cc is))
       where
         beyond : (d : ℕ) → d < site.tables.next → d ≡ site.tables.next → ⊥
         beyond d lt is = omega (arith, lt, is)
+
+        -- who draws a number had none, which is never open
+        draws : DrawsNumber site.tables.next scene (record { run = held_as s (record b { me = site.tables.next }) w.run; state = with_transaction s (with_granted act.Lock (Some statement) me) point.state })
+        draws = moves
+
+        no_less : site.tables.next ≡ 0 → ⊥
+        no_less is = let some = keeps.scene.shown.paged.some in omega (arith, some, is)
+
+        had_none : b.me ≡ 0
+        had_none = known (draws.by.s == s)
+            (λ one. ap (λ (d : SessionHeld). d.me) (some_is b draws.by.session (sym at ∙ ap (λ q. find nat_cmp q w.run.sessions) (sym (eqb-true draws.by.s s one)) ∙ draws.by.at)) ∙ draws.by.me)
+            (λ two. absurd (no_less (ap (λ (d : SessionHeld). d.me) (some_is (record draws.by.session { me = site.tables.next }) draws.by.session
+            (sym (find-put-same draws.by.s (record draws.by.session { me = site.tables.next }) w.run.sessions) ∙ sym (ap (λ (z : Scene). find nat_cmp draws.by.s z.run.sessions) draws.leads)
+            ∙ find-put-other draws.by.s s (record b { me = site.tables.next }) w.run.sessions two ∙ draws.by.at)) ∙ draws.by.me)))
+
+        is_none : b.me ≡ 0 → 0 < b.me → ⊥
+        is_none is lt = omega (arith, is, lt)
+
+        none_open : is_in b.me site.tables.opens ≡ true ⊎ ((b.me ≡ site.tables.next) × (Begins ≡ Begins)) → ⊥
+        none_open (inl before) = is_none had_none (listed_drawn site.tables.next site.area site.tables keeps.scene.shown.paged.sound.below b.me (inl before)).0
+        none_open (inr new) = no_less (sym new.0 ∙ had_none)
 
         new_one : IsAmong site.tables.next w.undo.orphans → ⊥
         new_one in_ = beyond site.tables.next (listed_drawn site.tables.next site.area site.tables keeps.scene.shown.paged.sound.below site.tables.next (inl (keeps.scene.undo.0.are_open site.tables.next in_))).1 refl
@@ -255,8 +288,11 @@ module _ (lines : List Line) (moment : ℕ) (base : Database) (stuck : List (Lis
     gone = record (carrying []) { run = record w.run { sessions = without nat_cmp s w.run.sessions }; since = without nat_cmp s w.since }
 
     reader_ends : b.me ≡ 0 → (v : Mind) → v.since ≡ without nat_cmp s w.since → v.facts ≡ with_facts s [] w.facts → v.undo ≡ w.undo → KeepsScene size site v (without_its s scene)
-    reader_ends zero_ v since facts undo = silent_scene size site w scene keeps.scene s (without nat_cmp s w.since) [] v since facts undo (without_its s scene) (gone_moves site)
+    reader_ends zero_ v since facts undo = silent_scene size site w scene keeps.scene s (without nat_cmp s w.since) [] v since facts undo (without_its s scene) (gone_moves site (λ open_. none zero_ (listed_drawn site.tables.next site.area site.tables keeps.scene.shown.paged.sound.below b.me (inl open_)).0))
         (shown_ended keeps.scene.low site scene keeps.scene.shown s (λ a at_a. ap (λ (d : SessionHeld). d.me) (some_is a b (sym at_a ∙ at)) ∙ zero_))
+      where
+        none : b.me ≡ 0 → 0 < b.me → ⊥
+        none is lt = omega (arith, is, lt)
 
     pub read_only_turn : Comes lines point (entry act.Ask reply.ReadOnly) → b.me ≡ 0 → Keeps lines (at_start moment base stuck) size later site (told act.Ask reply.ReadOnly gone)
     read_only_turn comes zero_ = entry_keeps act.Ask reply.ReadOnly site (told act.Ask reply.ReadOnly gone) comes refl (reader_ends zero_ (told act.Ask reply.ReadOnly gone) refl refl refl) (rolls_gone act.Ask reply.ReadOnly comes)
@@ -269,8 +305,11 @@ module _ (lines : List Line) (moment : ℕ) (base : Database) (stuck : List (Lis
         → Keeps lines (at_start moment base stuck) size later (site_after b.me Aborts site) (told act.Rollback reply.RolledBack gone)
     rolled_back_turn leaves comes some owed bounds moves =
         entry_keeps act.Rollback reply.RolledBack (site_after b.me Aborts site) (told act.Rollback reply.RolledBack gone) comes refl
-        (action_scene size site w scene keeps.scene s (without nat_cmp s w.since) [] (told act.Rollback reply.RolledBack gone) refl refl refl (without_its s scene) leaves legal me b.me Aborts is_me owed tt (alone some) no_orphan bounds moves (gone_moves (site_after b.me Aborts site)))
+        (action_scene size site w scene keeps.scene s (without nat_cmp s w.since) [] (told act.Rollback reply.RolledBack gone) refl refl refl (without_its s scene) leaves legal me b.me Aborts is_me owed tt (alone some) no_orphan bounds moves (gone_moves (site_after b.me Aborts site) left_behind))
         (rolls_gone act.Rollback reply.RolledBack comes)
+      where
+        left_behind : is_in b.me (without_xid b.me site.tables.opens) ≡ true → ⊥
+        left_behind open_ = (once_less b.me site.tables.opens (once_parts (xids_in site.tables.opens) (xids_in site.tables.aborted) keeps.scene.shown.paged.sound.below.once).0).1 (in_among b.me (without_xid b.me site.tables.opens) open_)
 
 -- ---- BEGIN, and what is refused outside a transaction
 
@@ -306,6 +345,7 @@ module _ (lines : List Line) (moment : ℕ) (base : Database) (stuck : List (Lis
         under = λ t fact is_t in_. absurd in_;
         tables = λ fact e in_ is. absurd in_;
         not_orphan = λ b at in_. no_zero (subst (λ (a : SessionHeld). IsAmong a.me w.undo.orphans) (some_is b (begun_now site w.run) (sym at ∙ find-put-same s (begun_now site w.run) w.run.sessions)) in_);
+        seats = λ b at open_. absurd (false≢true (ap is_some (sym none ∙ (keeps.scene.shown.paged.modelled s b at).1)));
       })
       (shown_begun keeps.scene.low site (scene_of lines (at_start moment base stuck) w) keeps.scene.shown s none)))
       (rolls_moved lines outside began comes w.run began_mind.run keeps.rolls (λ r two. find-put-other r s (begun_now site w.run) w.run.sessions two)

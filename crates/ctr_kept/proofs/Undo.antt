@@ -19,7 +19,7 @@ use Rattle.ctr_paged.proofs.record_laws_Xids.{among_in, in_among, once_parts}
 use Rattle.ctr_paged.proofs.record_laws_Undone.{filter_append}
 use Rattle.ctr_versions.specs.Laws.{IsNoSessions}
 use Rattle.ctr_paged.specs.area_Images.{undo_size}
-use Rattle.ctr_kept.specs.Undo.{Undo, left_of, undo_at, IsTheirs, IsUndoLeft, CountsTo}
+use Rattle.ctr_kept.specs.Undo.{Undo, left_of, undo_at, IsSessions, IsTheirs, IsUndoLeft, CountsTo}
 
 -- ---- turns
 
@@ -59,6 +59,7 @@ module _ (counted : ℕ) (tables : Tables) (area : Area) (sound : IsSoundArea co
     nobodys = λ x in_ s b at. absurd (false≢true (ap is_some at));
     once = (once_parts (xids_in tables.opens) (xids_in tables.aborted) sound.below.once).0;
     begun = λ x open_. inl (in_among x tables.opens open_);
+    seated = λ x open_. inl (in_among x tables.opens open_);
     numbered = omega arith;
   }
     where
@@ -90,9 +91,9 @@ once_without (z ∷ front) back x once =
 -- ---- over turns
 
 module _ (tables : Tables) (sessions : List (ℕ × SessionHeld)) (u : Undo) (left : IsUndoLeft tables sessions u) where
-  -- sessions move: who is left is nobody's still
-  pub left_moved : (next : List (ℕ × SessionHeld)) → ((x : ℕ) → IsAmong x u.orphans → IsNoSessions next x) → IsUndoLeft tables next u
-  left_moved next nobodys = record {
+  -- sessions move: who is left is nobody's still, and who is open and a session's is so still
+  pub left_moved : (next : List (ℕ × SessionHeld)) → ((x : ℕ) → IsAmong x u.orphans → IsNoSessions next x) → ((x : ℕ) → is_in x tables.opens ≡ true → IsSessions sessions x → IsSessions next x) → IsUndoLeft tables next u
+  left_moved next nobodys seats = record {
     run = left.run;
     items = left.items;
     theirs = left.theirs;
@@ -101,6 +102,7 @@ module _ (tables : Tables) (sessions : List (ℕ × SessionHeld)) (u : Undo) (le
     nobodys = nobodys;
     once = left.once;
     begun = left.begun;
+    seated = λ x open_. ⊎_elim (λ theirs. inl theirs) (λ its. inr (seats x open_ its)) (left.seated x open_);
     numbered = left.numbered;
   }
 
@@ -119,6 +121,7 @@ module _ (tables : Tables) (sessions : List (ℕ × SessionHeld)) (u : Undo) (le
     nobodys = left.nobodys;
     once = left.once;
     begun = λ x open_. left.begun x (sym (ap (is_in x) opens) ∙ open_);
+    seated = λ x open_. left.seated x (sym (ap (is_in x) opens) ∙ open_);
     numbered = subst (λ n. u.first ≤ n) (sym next) left.numbered;
   }
 
@@ -149,8 +152,14 @@ module _ (tables : Tables) (sessions : List (ℕ × SessionHeld)) (u : Undo) (le
         are_open = λ y in_. among_in y (without_xid x tables.opens) (still_among x y tables.opens (λ same. once.1 (subst (λ q. IsAmong q (front ++ back)) same in_)) (in_among y tables.opens (left.are_open y (more y in_))));
         nobodys = λ y in_. left.nobodys y (more y in_);
         once = once.0;
-        begun = λ y open_. let there = in_among y (without_xid x tables.opens) open_ in
-            let apart : y ≡ x → ⊥ = λ same. (once_less x tables.opens opens_once).1 (subst (λ z. IsAmong z (xids_in (without_xid x tables.opens))) same there) in
-            ⊎_elim (λ in_. inl (other_among front back x y apart (subst (IsAmong y) is in_))) (λ since. inr since) (left.begun y (among_in y tables.opens (among_without x y tables.opens there)));
+        begun = λ y open_. ⊎_elim (λ in_. inl (other_among front back x y (apart y open_) (subst (IsAmong y) is in_))) (λ since. inr since) (left.begun y (was_open y open_));
+        seated = λ y open_. ⊎_elim (λ in_. inl (other_among front back x y (apart y open_) (subst (IsAmong y) is in_))) (λ its. inr its) (left.seated y (was_open y open_));
         numbered = left.numbered;
       }
+    where
+      -- who is open still isn't the one that went, and was open
+      apart : (y : ℕ) → is_in y (without_xid x tables.opens) ≡ true → y ≡ x → ⊥
+      apart y open_ same = (once_less x tables.opens opens_once).1 (subst (λ z. IsAmong z (xids_in (without_xid x tables.opens))) same (in_among y (without_xid x tables.opens) open_))
+
+      was_open : (y : ℕ) → is_in y (without_xid x tables.opens) ≡ true → is_in y tables.opens ≡ true
+      was_open y open_ = among_in y tables.opens (among_without x y tables.opens (in_among y (without_xid x tables.opens) open_))

@@ -1,6 +1,8 @@
 -- Undo's list: the items of the start that are left, and behind them the transactions that were
 -- open then.
-use Rattle.std.specs.Prelude.{◌≡◌, ◌⊎◌, ℕ, ◌+◌, ◌≤◌, true, List, ◌++◌, length}
+use Rattle.std.specs.Prelude.{◌≡◌, ◌⊎◌, ℕ, ◌+◌, ◌≤◌, true, List, ◌++◌, length, Some}
+use Rattle.std.specs.Ordering.{nat_cmp}
+use Rattle.std.specs.FinMap.Entries.{find}
 use Rattle.ctr_rec.specs.declared.record.SlogItem.{SlogItem}
 use Rattle.ctr_rec.specs.declared.record.SlogItem.TheVariants.{AllocOf, FreeOf, CreateOf, DropOf}
 use Rattle.ctr_versions.specs.Engine.{SessionHeld}
@@ -38,9 +40,16 @@ IsTheirs xs (FreeOf p) = Unit {0}
 IsTheirs xs (CreateOf y e) = IsAmong y xs
 IsTheirs xs (DropOf y e) = IsAmong y xs
 
+-- one of the sessions has this number
+pub record IsSessions (sessions : List (ℕ × SessionHeld)) (x : ℕ) : Type 0 where
+  pub s : ℕ
+  pub session : SessionHeld
+  pub at : find nat_cmp s sessions ≡ Some session
+  pub me : session.me ≡ x
+
 -- The items of the tables are those left of the start, and behind them those of this run, of which
 -- none is of who is left; who is left is open, once, and no session's; and who else is open has begun
--- in this run.
+-- in this run, and is a session's.
 pub record IsUndoLeft (tables : Tables) (sessions : List (ℕ × SessionHeld)) (u : Undo) : Type 0 where
   pub run : List SlogItem
   pub items : tables.items ≡ u.items ++ run
@@ -50,6 +59,8 @@ pub record IsUndoLeft (tables : Tables) (sessions : List (ℕ × SessionHeld)) (
   pub nobodys : (x : ℕ) → IsAmong x u.orphans → IsNoSessions sessions x
   pub once : AreAllOnce u.orphans
   pub begun : (x : ℕ) → is_in x tables.opens ≡ true → IsAmong x u.orphans ⊎ (u.first ≤ x)
+  pub seated : (x : ℕ) → is_in x tables.opens ≡ true
+      → IsAmong x u.orphans ⊎ IsSessions sessions x
   pub numbered : u.first ≤ tables.next
 
 -- Of a start: what was done and what is left is the size of its undo.

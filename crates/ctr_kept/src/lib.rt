@@ -11,6 +11,7 @@ pub use ctr_paged::an_image_opens;
 pub use recovery::{
     a_dying_table_is_away, a_page_is_given_back, a_table_is_undone, an_action_of_nobodys_is_kept,
     an_orphan_is_ended, recovery_is_in_no_transaction, undo_is_counted,
+    where_nobody_is_inside_none_is_open,
 };
 pub use sessions::{
     a_commit_is_asked_for, a_number_is_drawn, a_rollback_ends, a_turn_without_an_entry_is_kept,

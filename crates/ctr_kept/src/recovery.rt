@@ -73,6 +73,11 @@ pub fn a_dying_table_is_away()
     tables_in_use_stay_live();
 }
 
+/// Where undo has ended all that a stop left open, and no session is in a transaction, no transaction is open in the tables.
+pub fn where_nobody_is_inside_none_is_open()
+    ensures { (c : Start) (now : ℕ) (site : Site) (w : Mind) → KeepsRun c now site w → w.undo.orphans ≡ [] → ((s : ℕ) → transaction_of (state_now c w) s ≡ None) → site.tables.opens ≡ [] }
+{}
+
 /// Undo took as many turns as the start has items and open transactions, where nothing is left; and before that at most so many.
 pub fn undo_is_counted()
     ensures all { (size : ℕ) (u : Undo) → CountsTo size u → left_of u ≡ 0 → u.turns ≡ size }

@@ -39,6 +39,7 @@ module _ (c : Start) (now s : ℕ) (site : Site) (w : Mind) (keeps : KeepsRun c 
     under = λ t fact is_t in_. subst (λ (u : Transaction). IsUnderLock u fact site) (is_its t is_t) (carries.held fact in_).1;
     tables = carries.tables;
     not_orphan = λ b at in_. keeps.scene.undo.0.nobodys b.me in_ s b at refl;
+    seats = λ b at open_. record { s = s; session = b; at = at; me = refl };
   }
 
   pub counts_now : KeepsRun c now site (carrying s mine w)
