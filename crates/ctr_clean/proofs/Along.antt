@@ -3,7 +3,7 @@ use Rattle.std.proofs.Common.{◌≡◌, ⊎_elim, inl, inr, ℕ, zero, suc, ℤ
 use Rattle.std.proofs.lemmas.Bool.{eq-eqb, ne_eqb, cases_eq}
 use Rattle.ctr_page.specs.declared.rows.Place.{Place}
 use Rattle.ctr_area.specs.Areas.{Older, Area}
-use Rattle.ctr_redo.specs.States.{State}
+use Rattle.ctr_pvs.specs.redo_States.{State}
 use Rattle.ctr_area.specs.Chains.{pages_bound, older_bound, pages_from, older_places, places_along, Leads}
 use Rattle.ctr_area.specs.Sound.{IsAmong, IsKeptFor, IsUsedSlot, IsOfVersions, AreReadable}
 use Rattle.ctr_area.proofs.Buckets.{each_of, on_chain}

@@ -6,7 +6,7 @@ use Rattle.std.proofs.lemmas.Bool.{eq-eqb, eqb-true, false≢true, cases_eq}
 use Rattle.ctr_actions.proofs.versions_Keys.{known}
 use Rattle.ctr_types.specs.declared.value.Column.{Column}
 use Rattle.ctr_types.specs.declared.value.Kind.{Kind}
-use Rattle.ctr_redo.specs.States.{State}
+use Rattle.ctr_pvs.specs.redo_States.{State}
 use Rattle.ctr_page.specs.declared.rows.Place.{Place}
 use Rattle.ctr_page.specs.declared.rows.Version.{Version}
 use Rattle.ctr_page.specs.declared.rows.RowSlot.{RowSlot}
@@ -26,9 +26,9 @@ use Rattle.ctr_record_laws.specs.Owed.{Reverting, ToPrevious, ToKept, ToNothing,
 use Rattle.ctr_area.proofs.Buckets.{each_of}
 use Rattle.ctr_record_effects.specs.States.{pages_in, area_in}
 use Rattle.ctr_record_effects.specs.Standing.{IsDatabaseState}
-use Rattle.ctr_page_turns.specs.passed_Logged.{IsVersionOf, IsSlotOf, IsOlderOf}
+use Rattle.ctr_dead.specs.passed_Logged.{IsVersionOf, IsSlotOf, IsOlderOf}
 use Rattle.ctr_pvs.proofs.Made.{slot_made, older_made}
-use Rattle.ctr_undamaged.specs.revert_Reverting.{blank_slot, if_used, entry_at_place, slot_by_entry, slot_without_head, slot_reverted}
+use Rattle.ctr_revert.specs.Reverting.{blank_slot, if_used, entry_at_place, slot_by_entry, slot_without_head, slot_reverted}
 use Rattle.ctr_clean.specs.Heads.{IsPageOfBytes, HaveRoom, LeadsFrom}
 use Rattle.ctr_clean.proofs.OnPage.{slot_fits, entry_fits}
 

@@ -5,3 +5,4 @@ pub mod Resting
 pub mod Listed
 pub mod Along
 pub mod Passed
+pub use Rattle.ctr_dead.proofs.page_turns_Going as page_turns_Going

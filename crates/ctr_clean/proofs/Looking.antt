@@ -12,16 +12,16 @@ use Rattle.ctr_area.specs.Images.{is_committed_in}
 use Rattle.ctr_area.specs.Reading.{area_of}
 use Rattle.ctr_area.specs.Chains.{slot_places}
 use Rattle.ctr_area.specs.Sound.{IsAmong}
-use Rattle.ctr_redo.specs.States.{State}
+use Rattle.ctr_pvs.specs.redo_States.{State}
 use Rattle.ctr_record_effects.specs.States.{area_in}
 use Rattle.ctr_record_laws.specs.Owed.{PassCommitted, OwedByTrim}
-use Rattle.ctr_store.specs.Store.{View}
+use Rattle.ctr_pvs.specs.store_Store.{View}
 use Rattle.ctr_pvs.specs.Slots.{SlotSaidAt}
-use Rattle.ctr_chain.specs.Seeking.{entries_on, sought_in, sought_at, xids_found}
-use Rattle.ctr_trim.specs.undamaged_Undamaged.{MeetsNoDamage}
-use Rattle.ctr_page_turns.specs.Turns.{Turns, Reads, LogsARecord}
-use Rattle.ctr_trim.specs.declared.slots.TrimWay.{TrimWay}
-use Rattle.ctr_trim.specs.Trimming.{trimming_by, trim_record, TrimsSlot}
+use Rattle.ctr_dead.specs.chain_Seeking.{entries_on, sought_in, sought_at, xids_found}
+use Rattle.ctr_dead.specs.undamaged_Undamaged.{MeetsNoDamage}
+use Rattle.ctr_dead.specs.page_turns_Turns.{Turns, Reads, LogsARecord}
+use Rattle.ctr_dead.specs.trim_TrimWay.{TrimWay}
+use Rattle.ctr_dead.specs.trim_Trimming.{trimming_by, trim_record, TrimsSlot}
 use Rattle.ctr_clean.specs.Choosing.{passes_below}
 use Rattle.ctr_clean.specs.Steps.{Locks, MayTrimAt}
 

@@ -12,7 +12,7 @@ use Rattle.ctr_page.specs.declared.rows.Version.{Version}
 use Rattle.ctr_page.specs.Places.{has_previous, previous_at, pointer_at, kept_pointer_at, slot_size, kept_size}
 use Rattle.ctr_page.specs.Reading.{piece, place_in, version_in, if_there, previous_in, slot_in, older_in}
 use Rattle.ctr_page.specs.Making.{PlaceFits, IsVersion, IsPrevious, IsSlot, IsEntry}
-use Rattle.ctr_walk.proofs.Entries.{field_there}
+use Rattle.ctr_dead.proofs.walk_Entries.{field_there}
 
 above_0 : (n : ℕ) → (n ≡ 0 → ⊥) → 0 < n
 above_0 zero some = absurd (some refl)

@@ -5,11 +5,11 @@ use Rattle.std.proofs.lemmas.List.{append-nil}
 use Rattle.ctr_disk.specs.declared.disk.Disk.{Ghosts}
 use Rattle.ctr_disk.specs.Image.{Image}
 use Rattle.ctr_disk.specs.declared.fault.StoreFault.{StoreFault}
-use Rattle.ctr_base.specs.Base.{IsSoundImage}
-use Rattle.ctr_store.specs.Store.{View, LeavesFront, LeavesPage}
-use Rattle.ctr_walk.specs.Damage.{ReadsPages}
-use Rattle.ctr_walk.proofs.Damages.{reads_err, reads_behind}
-use Rattle.ctr_walk.proofs.Joins.{pages_join}
+use Rattle.ctr_pvs.specs.base_Base.{IsSoundImage}
+use Rattle.ctr_pvs.specs.store_Store.{View, LeavesFront, LeavesPage}
+use Rattle.ctr_pvs.specs.walk_Damage.{ReadsPages}
+use Rattle.ctr_pvs.proofs.walk_Damages.{reads_err, reads_behind}
+use Rattle.ctr_pvs.proofs.walk_Joins.{pages_join}
 
 pub rests_read : {D T : Type 0} (first : Image) (g : Ghosts D) (a : View D) (x : T) → (IsTrue g.tells → IsSoundImage first → LeavesFront g a a) → a.stopped ≡ false → LeavesPage {T = T} first g a a (Ok x)
 rests_read first g a x rests going = record {

@@ -5,8 +5,8 @@ use Rattle.ctr_meta.specs.Tables.{Tables, is_in}
 use Rattle.ctr_area.specs.Areas.{RowVersion, Slot}
 use Rattle.ctr_area.specs.Images.{is_committed_in}
 use Rattle.ctr_record_laws.specs.Owed.{Trimming, FitsTrimming, IsCut}
-use Rattle.ctr_trim.specs.Trimming.{trimming_by}
-use Rattle.ctr_trim.specs.declared.slots.TrimWay.{TrimWay}
+use Rattle.ctr_dead.specs.trim_Trimming.{trimming_by}
+use Rattle.ctr_dead.specs.trim_TrimWay.{TrimWay}
 use Rattle.ctr_clean.specs.declared.choosing.SlotFacts.{SlotFacts}
 use Rattle.ctr_clean.specs.declared.choosing.SlotTask.{SlotTask}
 use Rattle.ctr_clean.specs.declared.choosing.SlotTask.TheVariants.{Nothing, Revert, Trim}

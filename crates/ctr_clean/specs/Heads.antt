@@ -6,7 +6,7 @@ use Rattle.ctr_page.specs.declared.rows.Place.{Place}
 use Rattle.ctr_page.specs.Columns.{kinds_of, kinds_width}
 use Rattle.ctr_area.specs.Areas.{Slot}
 use Rattle.ctr_area.specs.Reading.{columns_on}
-use Rattle.ctr_redo.specs.States.{State, page_limit}
+use Rattle.ctr_pvs.specs.redo_States.{State, page_limit}
 use Rattle.ctr_record_effects.specs.States.{pages_in, area_in, IsWholePage}
 
 -- A page is there, whole, and all of it are bytes.

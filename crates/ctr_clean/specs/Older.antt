@@ -1,7 +1,7 @@
 -- What a step of the cleaner did at a version entry.
 use Rattle.std.specs.Prelude.{◌≡◌, ℕ, ℤ, Bool, true, false, Option, None, Some}
 use Rattle.ctr_page.specs.declared.rows.Place.{Place}
-use Rattle.ctr_redo.specs.States.{State}
+use Rattle.ctr_pvs.specs.redo_States.{State}
 use Rattle.ctr_area.specs.Areas.{Older, Area}
 use Rattle.ctr_area.specs.Chains.{older_bound, places_along}
 use Rattle.ctr_area.specs.Sound.{IsAmong, IsUsedSlot, along}

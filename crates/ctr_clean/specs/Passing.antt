@@ -1,7 +1,7 @@
 -- When no step has anything to do.
 use Rattle.std.specs.Prelude.{◌≡◌, ℕ, true}
 use Rattle.ctr_page.specs.declared.rows.Place.{Place}
-use Rattle.ctr_redo.specs.States.{State}
+use Rattle.ctr_pvs.specs.redo_States.{State}
 use Rattle.ctr_area.specs.Images.{is_live}
 use Rattle.ctr_record_effects.specs.States.{area_in}
 use Rattle.ctr_actions.specs.Actions.{Action, Unlinks, UnlinksOlder, FreesEntry}

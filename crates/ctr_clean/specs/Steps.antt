@@ -4,15 +4,15 @@ use Rattle.std.specs.Prelude.{◌≡◌, ℕ, ◌+◌, List, Bool, true, false, 
 use Rattle.ctr_meta.specs.Tables.{is_in}
 use Rattle.ctr_page.specs.declared.rows.Place.{Place}
 use Rattle.ctr_locks.specs.Held.{LocksOfSession, locks_key, first_that}
-use Rattle.ctr_redo.specs.States.{State}
+use Rattle.ctr_pvs.specs.redo_States.{State}
 use Rattle.ctr_record_effects.specs.States.{area_in}
 use Rattle.ctr_record_laws.specs.Owed.{Reverting, OwedByRevert, Trimming, OwedByTrim}
 use Rattle.ctr_actions.specs.Sites.{Site, site_of}
 use Rattle.ctr_actions.specs.Actions.{Action, Reverts, Trims, Cuts, FreesOlder}
 use Rattle.ctr_actions.specs.Cleaning.{IsCleaning}
-use Rattle.ctr_page_turns.specs.Acts.{ActsBy}
-use Rattle.ctr_trim.specs.declared.slots.TrimWay.{TrimWay}
-use Rattle.ctr_trim.specs.Trimming.{trimming_by}
+use Rattle.ctr_dead.specs.page_turns_Acts.{ActsBy}
+use Rattle.ctr_dead.specs.trim_TrimWay.{TrimWay}
+use Rattle.ctr_dead.specs.trim_Trimming.{trimming_by}
 use Rattle.ctr_clean.specs.Choosing.{passes_below, MayTrim}
 use Rattle.ctr_clean.specs.declared.choosing.SlotTask.{SlotTask}
 use Rattle.ctr_clean.specs.declared.choosing.SlotTask.TheVariants as task

@@ -1,6 +1,6 @@
 -- What a step of the cleaner did at an entry of the catalog.
 use Rattle.std.specs.Prelude.{◌≡◌, ℕ, Bool, true, false}
-use Rattle.ctr_redo.specs.States.{State}
+use Rattle.ctr_pvs.specs.redo_States.{State}
 use Rattle.ctr_record_effects.specs.States.{area_in}
 use Rattle.ctr_record_laws.specs.Owed.{OwedByDying}
 use Rattle.ctr_actions.specs.Actions.{MakesDead}

@@ -9,9 +9,9 @@ ghost use Rattle.ctr_area.specs.Reading.{slot_said};
 ghost use Rattle.ctr_pvs.specs.Slots.{slot_lent};
 ghost use Rattle.ctr_clean.specs.Choosing.{passes_below, Tells, IsTrimOf, IsTask};
 
+use ctr_dead::TrimWay;
 use ctr_meta::Meta;
 use ctr_pvs::{LentPart, LentSlot};
-use ctr_trim::TrimWay;
 use ctr_types::{Fate, Xid};
 
 /// What the cleaner has to know of a slot. Where the slot isn't used the rest says nothing.

@@ -1,19 +1,19 @@
 // A step that cuts a chain behind a version entry.
 ghost use Rattle.std.specs.Prelude.{◌≡◌, ◌<◌, ℕ, ℤ, true, false, IfSome, IfOk, IfErr, OnOk};
 ghost use Rattle.ctr_disk.specs.declared.fault.StoreFault.TheVariants.{Fault};
-ghost use Rattle.ctr_base.specs.Base.{WhereSound};
+ghost use Rattle.ctr_pvs.specs.base_Base.{WhereSound};
 ghost use Rattle.ctr_page.specs.declared.rows.Place.{Place as PlaceOf};
-ghost use Rattle.ctr_redo.specs.States.{State};
+ghost use Rattle.ctr_pvs.specs.redo_States.{State};
 ghost use Rattle.ctr_area.specs.Areas.{Slot};
 ghost use Rattle.ctr_area.specs.Chains.{slot_places, older_bound, Leads};
 ghost use Rattle.ctr_area.specs.Images.{is_live};
 ghost use Rattle.ctr_area.specs.Sound.{IsAmong, IsKeptFor, IsUsedSlot};
 ghost use Rattle.ctr_record_effects.specs.States.{area_in};
 ghost use Rattle.ctr_record_effects.specs.Standing.{IsDatabaseState};
-ghost use Rattle.ctr_walk.specs.OneRecord.{HasRoomForOne};
-ghost use Rattle.ctr_walk.specs.Damage.{ReadsPages};
-ghost use Rattle.ctr_page_turns.specs.Rooms.{AddsItems};
-ghost use Rattle.ctr_page_turns.specs.Turns.{Turns};
+ghost use Rattle.ctr_pvs.specs.walk_OneRecord.{HasRoomForOne};
+ghost use Rattle.ctr_pvs.specs.walk_Damage.{ReadsPages};
+ghost use Rattle.ctr_dead.specs.page_turns_Rooms.{AddsItems};
+ghost use Rattle.ctr_dead.specs.page_turns_Turns.{Turns};
 ghost use Rattle.ctr_clean.specs.Choosing.{passes_below, Tells};
 ghost use Rattle.ctr_clean.specs.Steps.{next_stepped};
 ghost use Rattle.ctr_clean.specs.Cutting.{IsCutAlong, OwnPasses, GoesBehind, CutsBehind, CutsAt};
@@ -22,17 +22,14 @@ use crate::choosing::{SlotFacts, passes};
 use crate::heads::behind_at;
 use crate::older::{MOST_OLDER, look_older};
 use crate::steps::{Step, look_at};
-use ctr_base::Origin;
+use ctr_dead::{a_place_of_a_table_fits, a_turn_goes_on, cut_behind, room_is_still_there};
 use ctr_disk::{Disk, StoreFault};
 use ctr_locks::KeyLocks;
 use ctr_meta::Meta;
 use ctr_model::Key;
 use ctr_page::Place;
-use ctr_page_turns::{a_turn_goes_on, room_is_still_there};
-use ctr_store::Store;
-use ctr_trim::cut_behind;
+use ctr_pvs::{Origin, Store};
 use ctr_types::Xid;
-use ctr_undamaged::a_place_of_a_table_fits;
 
 /// Where a chain may be cut that begins at a place, behind a slot: at the first version entry whose version everybody sees, where another is
 /// behind it. Each version entry up to that is read.

@@ -1,9 +1,9 @@
 // The head of a slot is taken from it.
 ghost use Rattle.std.specs.Prelude.{◌≡◌, ◌<◌, ◌+◌, ℕ, true, false, OnOk, IfOk, IfErr, slice_index};
 ghost use Rattle.ctr_disk.specs.declared.fault.StoreFault.TheVariants.{Fault};
-ghost use Rattle.ctr_base.specs.Base.{WhereSound};
-ghost use Rattle.ctr_store.specs.Store.{LeavesPage};
-ghost use Rattle.ctr_redo.specs.States.{page_limit};
+ghost use Rattle.ctr_pvs.specs.base_Base.{WhereSound};
+ghost use Rattle.ctr_pvs.specs.store_Store.{LeavesPage};
+ghost use Rattle.ctr_pvs.specs.redo_States.{page_limit};
 ghost use Rattle.ctr_area.specs.Chains.{slot_places};
 ghost use Rattle.ctr_area.specs.Reading.{columns_on};
 ghost use Rattle.ctr_area.specs.Sound.{IsAmong};
@@ -11,27 +11,24 @@ ghost use Rattle.ctr_record_effects.specs.States.{pages_in, area_in};
 ghost use Rattle.ctr_record_effects.specs.Standing.{IsDatabaseState};
 ghost use Rattle.ctr_record_laws.specs.Owed.{Reverting, OwedByRevert};
 ghost use Rattle.ctr_actions.specs.Actions.{Reverts};
-ghost use Rattle.ctr_walk.specs.OneRecord.{HasRoomForOne};
-ghost use Rattle.ctr_walk.specs.Damage.{ReadsPages};
+ghost use Rattle.ctr_pvs.specs.walk_OneRecord.{HasRoomForOne};
+ghost use Rattle.ctr_pvs.specs.walk_Damage.{ReadsPages};
 ghost use Rattle.ctr_pvs.specs.Slots.{slot_lent};
-ghost use Rattle.ctr_page_turns.specs.Turns.{Turns};
-ghost use Rattle.ctr_page_turns.specs.Rooms.{AddsItems};
-ghost use Rattle.ctr_page_turns.specs.Acts.{ActsBy};
+ghost use Rattle.ctr_dead.specs.page_turns_Turns.{Turns};
+ghost use Rattle.ctr_dead.specs.page_turns_Rooms.{AddsItems};
+ghost use Rattle.ctr_dead.specs.page_turns_Acts.{ActsBy};
 ghost use Rattle.ctr_clean.specs.Heads.{IsPageOfBytes, LeadsFrom, IsReadBehind};
 
-use ctr_base::Origin;
-use ctr_disk::{Disk, StoreFault};
-use ctr_page::Place;
-use ctr_page_turns::{
-    a_record_acts, a_record_is_refused_by_the_disk_alone, a_turn_goes_on,
+use ctr_dead::{
+    a_head_is_taken_without_damage, a_place_of_a_table_fits, a_record_acts,
+    a_record_is_refused_by_the_disk_alone, a_row_is_read_without_damage, a_turn_goes_on,
     owed_slots_are_laid_as_their_actions, room_is_still_there,
 };
-use ctr_pvs::{LentSlot, row};
+use ctr_disk::{Disk, StoreFault};
+use ctr_page::Place;
+use ctr_pvs::{LentSlot, Origin, Store, row};
 use ctr_rec::PageNo;
 use ctr_revert::revert_row;
-use ctr_store::Store;
-use ctr_trim::a_row_is_read_without_damage;
-use ctr_undamaged::{a_head_is_taken_without_damage, a_place_of_a_table_fits};
 
 /// What is lent of a page are bytes.
 fn are_bytes(page: &[u8])

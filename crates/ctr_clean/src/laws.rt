@@ -1,6 +1,6 @@
 // What follows where no step has anything to do. A call does nothing: what it ensures is the law.
 ghost use Rattle.std.specs.Prelude.{ℕ};
-ghost use Rattle.ctr_redo.specs.States.{State};
+ghost use Rattle.ctr_pvs.specs.redo_States.{State};
 ghost use Rattle.ctr_actions.specs.Sites.{site_of};
 ghost use Rattle.ctr_actions.specs.Actions.{Action, Owes};
 ghost use Rattle.ctr_actions.specs.Cleaning.{IsCleaning};

@@ -15,6 +15,10 @@ mod steps;
 mod tables;
 
 pub use choosing::{SlotFacts, SlotTask, facts_of, task_of};
+pub use ctr_dead::{
+    a_table_can_be_linked_to, a_turn_goes_on, free_table, room_is_still_there, unlink,
+};
+pub use ctr_titles::title_at;
 pub use cutting::cut_at;
 pub use laws::nothing_is_left_to_clean;
 pub use lists::{forget_at, reclaim};

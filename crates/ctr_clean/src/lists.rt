@@ -2,26 +2,24 @@
 ghost use Rattle.std.specs.Prelude.{◌≡◌, ◌<◌, ℕ, None, IfSome, IfOk, IfErr, OnOk, drop};
 ghost use Rattle.std.specs.List.{AllByRecursion};
 ghost use Rattle.ctr_disk.specs.declared.fault.StoreFault.TheVariants.{Fault};
-ghost use Rattle.ctr_base.specs.declared.growing.TheConstants.{MOST_PAGES};
-ghost use Rattle.ctr_base.specs.Base.{WhereSound};
+ghost use Rattle.ctr_pvs.specs.base_growing_TheConstants.{MOST_PAGES};
+ghost use Rattle.ctr_pvs.specs.base_Base.{WhereSound};
 ghost use Rattle.ctr_rec.specs.Members.{ItemFits};
 ghost use Rattle.ctr_rec.specs.declared.record.SlogItem.TheVariants.{FreeOf};
 ghost use Rattle.ctr_area.specs.Sound.{IsAmong};
 ghost use Rattle.ctr_record_effects.specs.Standing.{IsDatabaseState};
-ghost use Rattle.ctr_walk.specs.OneRecord.{HasRoomForOne};
-ghost use Rattle.ctr_page_turns.specs.Turns.{Turns};
-ghost use Rattle.ctr_page_turns.specs.Rooms.{AddsItems};
+ghost use Rattle.ctr_pvs.specs.walk_OneRecord.{HasRoomForOne};
+ghost use Rattle.ctr_dead.specs.page_turns_Turns.{Turns};
+ghost use Rattle.ctr_dead.specs.page_turns_Rooms.{AddsItems};
 ghost use Rattle.ctr_clean.specs.Steps.{Locks, next_stepped};
 ghost use Rattle.ctr_clean.specs.Lists.{IsWithoutHead, ForgetsAt, ReclaimsOne, TakesItem};
 
 use crate::steps::Step;
-use ctr_base::Origin;
-use ctr_dead::{forget, give_back};
+use ctr_dead::{a_turn_goes_on, an_item_goes, forget, give_back};
 use ctr_disk::{Disk, StoreFault};
 use ctr_meta::Meta;
-use ctr_page_turns::{a_turn_goes_on, an_item_goes};
+use ctr_pvs::{Origin, Store};
 use ctr_rec::{PageNo, SlogItem};
-use ctr_store::Store;
 use ctr_types::Xid;
 
 /// The transaction at a place of the aborted transaction map, in its order, where it has no head.

@@ -2,8 +2,8 @@
 ghost use Rattle.std.specs.Prelude.{◌≡◌, ◌<◌, ℕ, ℤ, List, true, false, IfOk, IfErr, OnOk};
 ghost use Rattle.ctr_types.specs.declared.value.Column.{Column};
 ghost use Rattle.ctr_disk.specs.declared.fault.StoreFault.TheVariants.{Fault};
-ghost use Rattle.ctr_base.specs.Base.{WhereSound};
-ghost use Rattle.ctr_store.specs.Store.{LeavesPage};
+ghost use Rattle.ctr_pvs.specs.base_Base.{WhereSound};
+ghost use Rattle.ctr_pvs.specs.store_Store.{LeavesPage};
 ghost use Rattle.ctr_area.specs.Areas.{Older};
 ghost use Rattle.ctr_area.specs.Chains.{older_bound, older_places, Leads};
 ghost use Rattle.ctr_area.specs.Images.{is_live};
@@ -11,31 +11,26 @@ ghost use Rattle.ctr_area.specs.Reading.{older_said};
 ghost use Rattle.ctr_area.specs.Sound.{IsAmong, IsKeptFor};
 ghost use Rattle.ctr_record_effects.specs.States.{area_in};
 ghost use Rattle.ctr_record_effects.specs.Standing.{IsDatabaseState};
-ghost use Rattle.ctr_walk.specs.OneRecord.{HasRoomForOne};
-ghost use Rattle.ctr_walk.specs.Damage.{ReadsPages};
+ghost use Rattle.ctr_pvs.specs.walk_OneRecord.{HasRoomForOne};
+ghost use Rattle.ctr_pvs.specs.walk_Damage.{ReadsPages};
 ghost use Rattle.ctr_pvs.specs.Lending.{entry_lent};
-ghost use Rattle.ctr_page_turns.specs.Rooms.{AddsItems};
-ghost use Rattle.ctr_page_turns.specs.Turns.{Turns};
+ghost use Rattle.ctr_dead.specs.page_turns_Rooms.{AddsItems};
+ghost use Rattle.ctr_dead.specs.page_turns_Turns.{Turns};
 ghost use Rattle.ctr_clean.specs.Steps.{next_stepped};
 ghost use Rattle.ctr_clean.specs.Older.{IsSaid, IsOpenKey, HasAlong, IsHadBy, LooseAt, FreesAt};
 
 use crate::heads::behind_at;
 use crate::steps::Step;
-use ctr_base::Origin;
+use ctr_dead::{
+    a_bucket_search_meets_no_damage, a_place_of_a_table_fits, a_turn_goes_on,
+    a_version_entry_is_read_without_damage, find, free_loose, room_is_still_there,
+};
 use ctr_disk::{Disk, StoreFault};
-use ctr_heap::find;
 use ctr_locks::KeyLocks;
 use ctr_model::Key;
 use ctr_page::Place;
-use ctr_page_turns::{a_turn_goes_on, room_is_still_there};
-use ctr_pvs::{LentVersion, version};
-use ctr_store::Store;
-use ctr_trim::free_loose;
+use ctr_pvs::{LentVersion, Origin, Store, version};
 use ctr_types::Xid;
-use ctr_undamaged::{
-    a_bucket_search_meets_no_damage, a_place_of_a_table_fits,
-    a_version_entry_is_read_without_damage,
-};
 
 /// As many version entries as stand on all pages that can be counted: no chain has more.
 pub(crate) const MOST_OLDER: u32 = 5_100_000;

@@ -1,33 +1,31 @@
 // A step at a slot of a live table.
 ghost use Rattle.std.specs.Prelude.{◌≡◌, ◌<◌, ℕ, true, false, IfOk, IfErr, OnOk};
 ghost use Rattle.ctr_disk.specs.declared.fault.StoreFault.TheVariants.{Fault};
-ghost use Rattle.ctr_base.specs.Base.{WhereSound};
+ghost use Rattle.ctr_pvs.specs.base_Base.{WhereSound};
 ghost use Rattle.ctr_page.specs.declared.rows.Place.{Place as PlaceOf};
-ghost use Rattle.ctr_redo.specs.States.{State};
+ghost use Rattle.ctr_pvs.specs.redo_States.{State};
 ghost use Rattle.ctr_area.specs.Chains.{slot_places};
 ghost use Rattle.ctr_area.specs.Images.{is_live};
 ghost use Rattle.ctr_area.specs.Sound.{IsAmong};
 ghost use Rattle.ctr_record_effects.specs.States.{area_in};
 ghost use Rattle.ctr_record_effects.specs.Standing.{IsDatabaseState};
-ghost use Rattle.ctr_walk.specs.OneRecord.{HasRoomForOne};
-ghost use Rattle.ctr_walk.specs.Damage.{ReadsPages};
-ghost use Rattle.ctr_page_turns.specs.Turns.{Turns};
-ghost use Rattle.ctr_page_turns.specs.Rooms.{AddsItems};
+ghost use Rattle.ctr_pvs.specs.walk_OneRecord.{HasRoomForOne};
+ghost use Rattle.ctr_pvs.specs.walk_Damage.{ReadsPages};
+ghost use Rattle.ctr_dead.specs.page_turns_Turns.{Turns};
+ghost use Rattle.ctr_dead.specs.page_turns_Rooms.{AddsItems};
 ghost use Rattle.ctr_clean.specs.Choosing.{Tells};
 ghost use Rattle.ctr_clean.specs.Steps.{TaskAt, CleansSlot, next_stepped};
 
 use crate::choosing::{SlotFacts, SlotTask, task_of};
 use crate::heads::take_head;
 use crate::steps::{Step, look_at};
-use ctr_base::Origin;
+use ctr_dead::{a_turn_goes_on, room_is_still_there, trim_slot};
 use ctr_disk::{Disk, StoreFault};
 use ctr_locks::KeyLocks;
 use ctr_meta::Meta;
 use ctr_model::Key;
 use ctr_page::Place;
-use ctr_page_turns::{a_turn_goes_on, room_is_still_there};
-use ctr_store::Store;
-use ctr_trim::trim_slot;
+use ctr_pvs::{Origin, Store};
 use ctr_types::Xid;
 
 /// What is to be done with a slot, by what is known of it.

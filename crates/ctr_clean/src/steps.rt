@@ -1,21 +1,19 @@
 // What a step of the cleaner did, and what it knows of a slot.
 ghost use Rattle.std.specs.Prelude.{◌≡◌, ◌<◌, ℕ, false, IfOk, IfErr};
 ghost use Rattle.ctr_disk.specs.declared.fault.StoreFault.TheVariants.{Fault};
-ghost use Rattle.ctr_base.specs.Base.{WhereSound};
+ghost use Rattle.ctr_pvs.specs.base_Base.{WhereSound};
 ghost use Rattle.ctr_area.specs.Chains.{slot_places};
 ghost use Rattle.ctr_area.specs.Sound.{IsAmong};
 ghost use Rattle.ctr_record_effects.specs.States.{area_in};
 ghost use Rattle.ctr_record_effects.specs.Standing.{IsDatabaseState};
-ghost use Rattle.ctr_walk.specs.Damage.{ReadsPages};
+ghost use Rattle.ctr_pvs.specs.walk_Damage.{ReadsPages};
 ghost use Rattle.ctr_clean.specs.Choosing.{Tells};
 
 use crate::choosing::{SlotFacts, facts_of};
-use ctr_base::Origin;
+use ctr_dead::a_row_is_read_without_damage;
 use ctr_disk::{Disk, StoreFault};
 use ctr_page::Place;
-use ctr_pvs::row;
-use ctr_store::Store;
-use ctr_trim::a_row_is_read_without_damage;
+use ctr_pvs::{Origin, Store, row};
 
 /// What a step of the cleaner did.
 #[derive(Clone, Copy, Debug, PartialEq, Eq)]

@@ -1,27 +1,25 @@
 // A step at an entry of the catalog: a dropped table is made dead.
 ghost use Rattle.std.specs.Prelude.{◌≡◌, ◌<◌, false, IfOk, IfErr, OnOk};
 ghost use Rattle.ctr_disk.specs.declared.fault.StoreFault.TheVariants.{Fault};
-ghost use Rattle.ctr_base.specs.Base.{WhereSound};
-ghost use Rattle.ctr_redo.specs.States.{State};
+ghost use Rattle.ctr_pvs.specs.base_Base.{WhereSound};
+ghost use Rattle.ctr_pvs.specs.redo_States.{State};
 ghost use Rattle.ctr_record_effects.specs.States.{area_in};
 ghost use Rattle.ctr_record_effects.specs.Standing.{IsDatabaseState};
-ghost use Rattle.ctr_walk.specs.OneRecord.{HasRoomForOne};
-ghost use Rattle.ctr_walk.specs.Damage.{ReadsPages};
-ghost use Rattle.ctr_page_turns.specs.Turns.{Turns};
-ghost use Rattle.ctr_page_turns.specs.Rooms.{AddsItems};
+ghost use Rattle.ctr_pvs.specs.walk_OneRecord.{HasRoomForOne};
+ghost use Rattle.ctr_pvs.specs.walk_Damage.{ReadsPages};
+ghost use Rattle.ctr_dead.specs.page_turns_Turns.{Turns};
+ghost use Rattle.ctr_dead.specs.page_turns_Rooms.{AddsItems};
 ghost use Rattle.ctr_titles.specs.Titles.{IsTitle};
 ghost use Rattle.ctr_clean.specs.Steps.{Locks, next_stepped};
 ghost use Rattle.ctr_clean.specs.Tables.{DiesAt, MakesDeadAt};
 
 use crate::choosing::passes;
 use crate::steps::Step;
-use ctr_base::Origin;
-use ctr_dead::make_dead;
+use ctr_dead::{a_turn_goes_on, make_dead, room_is_still_there};
 use ctr_disk::{Disk, StoreFault};
 use ctr_meta::Meta;
 use ctr_page::EntryState;
-use ctr_page_turns::{a_turn_goes_on, room_is_still_there};
-use ctr_store::Store;
+use ctr_pvs::{Origin, Store};
 use ctr_titles::{TitleRead, title_at};
 use ctr_types::Xid;
 

@@ -20,20 +20,20 @@ use Rattle.ctr_area.specs.Images.{is_committed_in}
 use Rattle.ctr_area.specs.Reading.{entry_bytes}
 use Rattle.ctr_area.specs.Sound.{IsAmong}
 use Rattle.ctr_area.proofs.Buckets.{nothing_from_0}
-use Rattle.ctr_redo.specs.States.{State}
-use Rattle.ctr_record_effects.specs.States.{pages_in, area_in}
-use Rattle.ctr_record_effects.specs.Standing.{IsDatabaseState}
+use Rattle.ctr_walk.specs.redo_States.{State}
+use Rattle.ctr_walk.specs.record_effects_States.{pages_in, area_in}
+use Rattle.ctr_walk.specs.record_effects_Standing.{IsDatabaseState}
 use Rattle.ctr_record_laws.specs.Bounds.{IsInBounds}
 use Rattle.ctr_record_laws.specs.Owed.{first_page, OwedByTrim, OwedByCut, OwedByDying, PassCommitted, OwedByUnlink, OwedByOlderUnlink}
 use Rattle.ctr_actions.specs.Sites.{site_of}
 use Rattle.ctr_actions.specs.Actions.{Action, Begins, Allocates, Formats, Links, LinksOlder, Keeps, Writes, Creates, Drops, Commits, Frees, Uncreates, Undrops, Aborts, Reclaims, Reverts, Trims, Cuts, FreesOlder, MakesDead, Unlinks, UnlinksOlder, FreesEntry, Forgets, Checkpoints, Owes}
 use Rattle.ctr_actions.specs.Cleaning.{IsCleaning}
-use Rattle.ctr_clean.specs.Choosing.{passes_below}
-use Rattle.ctr_clean.specs.Lists.{HasNoFree}
-use Rattle.ctr_clean.proofs.Listed.{place_in_map}
-use Rattle.ctr_cursor.specs.declared.position.Position.{Position}
-use Rattle.ctr_cursor.specs.declared.position.Position.TheVariants.{Entry, Slot, Kept, Aborted}
-use Rattle.ctr_cursor.specs.Pass.{HoldsEverywhere}
+use Rattle.ctr_emptying.specs.clean_Choosing.{passes_below}
+use Rattle.ctr_emptying.specs.clean_Lists.{HasNoFree}
+use Rattle.ctr_emptying.proofs.clean_Listed.{place_in_map}
+use Rattle.ctr_emptying.specs.cursor_Position.{Position}
+use Rattle.ctr_emptying.specs.cursor_Position.TheVariants.{Entry, Slot, Kept, Aborted}
+use Rattle.ctr_emptying.specs.cursor_Pass.{HoldsEverywhere}
 use Rattle.ctr_emptying.specs.Emptying.{HasNoRows}
 use Rattle.ctr_cleaner.specs.Finding.{HasNothingAt, HasNothingInSlot, HasNothingInDead}
 

@@ -11,32 +11,32 @@ use Rattle.ctr_area.specs.Areas.{Title, Area, no_pages}
 use Rattle.ctr_area.specs.Reading.{entry_bytes, bucket_numbers}
 use Rattle.ctr_area.specs.Images.{is_live}
 use Rattle.ctr_area.specs.Sound.{IsAmong}
-use Rattle.ctr_redo.specs.States.{State}
-use Rattle.ctr_record_effects.specs.States.{pages_in, area_in}
+use Rattle.ctr_walk.specs.redo_States.{State}
+use Rattle.ctr_walk.specs.record_effects_States.{pages_in, area_in}
 use Rattle.ctr_record_laws.specs.Owed.{Reverting, Trimming, OwedByUnlink, OwedByOlderUnlink}
 use Rattle.ctr_record_laws.proofs.Bounds.{pages_bounded}
 use Rattle.ctr_actions.specs.Sites.{site_of}
 use Rattle.ctr_actions.specs.Actions.{Action, Begins, Allocates, Formats, Links, LinksOlder, Keeps, Writes, Creates, Drops, Commits, Frees, Uncreates, Undrops, Aborts, Reclaims, Reverts, Trims, Cuts, FreesOlder, MakesDead, Unlinks, UnlinksOlder, FreesEntry, Forgets, Checkpoints}
 use Rattle.ctr_actions.specs.Cleaning.{IsCleaning}
-use Rattle.ctr_page_turns.specs.Acts.{ActsBy}
+use Rattle.ctr_emptying.specs.page_turns_Acts.{ActsBy}
 use Rattle.ctr_locks.specs.Held.{session_locks, IsHolder}
-use Rattle.ctr_clean.specs.declared.choosing.SlotFacts.{SlotFacts}
-use Rattle.ctr_clean.specs.declared.older.OlderFacts.{OlderFacts}
-use Rattle.ctr_clean.specs.Choosing.{passes_below, Tells}
-use Rattle.ctr_clean.specs.Cutting.{CutsAt, HasNoCut}
-use Rattle.ctr_clean.specs.Lists.{ForgetsAt, ReclaimsOne, HasNoForget, HasNoFree}
-use Rattle.ctr_clean.specs.Older.{IsSaid, FreesAt}
-use Rattle.ctr_clean.specs.Steps.{Locks, IsUnlocked, HasNoRevert, HasNoTrim, RevertsAt, CleansSlot, CleansOne, IsDoneAt}
-use Rattle.ctr_clean.specs.Tables.{MakesDeadAt, OwesDying}
-use Rattle.ctr_clean.specs.declared.steps.Step.{Step}
-use Rattle.ctr_clean.specs.declared.steps.Step.TheVariants as step
+use Rattle.ctr_emptying.specs.clean_SlotFacts.{SlotFacts}
+use Rattle.ctr_emptying.specs.clean_OlderFacts.{OlderFacts}
+use Rattle.ctr_emptying.specs.clean_Choosing.{passes_below, Tells}
+use Rattle.ctr_emptying.specs.clean_Cutting.{CutsAt, HasNoCut}
+use Rattle.ctr_emptying.specs.clean_Lists.{ForgetsAt, ReclaimsOne, HasNoForget, HasNoFree}
+use Rattle.ctr_emptying.specs.clean_Older.{IsSaid, FreesAt}
+use Rattle.ctr_emptying.specs.clean_Steps.{Locks, IsUnlocked, HasNoRevert, HasNoTrim, RevertsAt, CleansSlot, CleansOne, IsDoneAt}
+use Rattle.ctr_emptying.specs.clean_Tables.{MakesDeadAt, OwesDying}
+use Rattle.ctr_emptying.specs.clean_Step.{Step}
+use Rattle.ctr_emptying.specs.clean_Step.TheVariants as step
 use Rattle.ctr_emptying.specs.Emptying.{UnlinksRowsAt, UnlinksVersionsAt, FreesEntryAt, HasNoRows}
 use Rattle.ctr_emptying.specs.declared.emptied.Emptied.{Emptied}
 use Rattle.ctr_emptying.specs.declared.emptied.Emptied.TheVariants as emptied
-use Rattle.ctr_cursor.specs.declared.position.Position.{Position}
-use Rattle.ctr_cursor.specs.declared.position.Position.TheVariants.{Entry, Slot, Kept, Aborted}
-use Rattle.ctr_cursor.specs.Standing.{IsPosition, TakesPage}
-use Rattle.ctr_cursor.proofs.Stays.{free_none, no_chain}
+use Rattle.ctr_emptying.specs.cursor_Position.{Position}
+use Rattle.ctr_emptying.specs.cursor_Position.TheVariants.{Entry, Slot, Kept, Aborted}
+use Rattle.ctr_emptying.specs.cursor_Standing.{IsPosition, TakesPage}
+use Rattle.ctr_emptying.proofs.cursor_Stays.{free_none, no_chain}
 use Rattle.ctr_meta.specs.Kept.{TablesKept}
 use Rattle.ctr_cleaner.specs.declared.done.MayEmpty.{MayEmpty}
 use Rattle.ctr_cleaner.specs.declared.done.CleanTurn.{CleanTurn}

@@ -4,23 +4,23 @@ use Rattle.std.specs.Prelude.{IsTrue, IfOk, OnOk}
 use Rattle.ctr_disk.specs.declared.disk.Disk.{Ghosts}
 use Rattle.ctr_disk.specs.Image.{Image}
 use Rattle.ctr_disk.specs.declared.fault.StoreFault.{StoreFault}
-use Rattle.ctr_base.specs.Base.{IsSoundImage}
-use Rattle.ctr_store.specs.Store.{View, KeepsRoom, LeavesFront, LeavesPage}
+use Rattle.ctr_walk.specs.base_Base.{IsSoundImage}
+use Rattle.ctr_walk.specs.store_Store.{View, KeepsRoom, LeavesFront, LeavesPage}
 use Rattle.ctr_walk.specs.Damage.{ReadsPages}
 use Rattle.ctr_walk.specs.OneRecord.{HasRoomForOne}
 use Rattle.ctr_walk.proofs.Damages.{reads_err}
 use Rattle.ctr_walk.proofs.Joins.{answers_ok}
 use Rattle.ctr_walk.proofs.base_GrowLaws.{grown_more}
-use Rattle.ctr_redo.specs.States.{grown}
+use Rattle.ctr_walk.specs.redo_States.{grown}
 use Rattle.ctr_meta.specs.Kept.{TablesKept}
-use Rattle.ctr_page_turns.specs.Rooms.{AddsItems}
-use Rattle.ctr_page_turns.specs.Turns.{Turns, Reads, LogsARecord, Grows}
-use Rattle.ctr_page_turns.proofs.Going.{turn_ok, turn_fails}
-use Rattle.ctr_clean.specs.declared.steps.Step.{Step}
-use Rattle.ctr_clean.specs.declared.steps.Step.TheVariants as step
-use Rattle.ctr_clean.specs.Lists.{TakesItem}
-use Rattle.ctr_clean.specs.Steps.{next_stepped}
-use Rattle.ctr_clean.proofs.Resting.{rests_read}
+use Rattle.ctr_emptying.specs.page_turns_Rooms.{AddsItems}
+use Rattle.ctr_emptying.specs.page_turns_Turns.{Turns, Reads, LogsARecord, Grows}
+use Rattle.ctr_emptying.proofs.page_turns_Going.{turn_ok, turn_fails}
+use Rattle.ctr_emptying.specs.clean_Step.{Step}
+use Rattle.ctr_emptying.specs.clean_Step.TheVariants as step
+use Rattle.ctr_emptying.specs.clean_Lists.{TakesItem}
+use Rattle.ctr_emptying.specs.clean_Steps.{next_stepped}
+use Rattle.ctr_emptying.proofs.clean_Resting.{rests_read}
 use Rattle.ctr_emptying.specs.declared.emptied.Emptied.{Emptied}
 use Rattle.ctr_emptying.specs.declared.emptied.Emptied.TheVariants as emptied
 use Rattle.ctr_emptying.specs.Emptying.{next_emptied}

@@ -4,13 +4,13 @@ use Rattle.std.specs.Prelude.{IfSome}
 use Rattle.ctr_disk.specs.Image.{Image}
 use Rattle.ctr_disk.specs.declared.disk.Disk.{Ghosts}
 use Rattle.ctr_meta.specs.Kept.{TablesKept}
-use Rattle.ctr_redo.specs.States.{State}
+use Rattle.ctr_walk.specs.redo_States.{State}
 use Rattle.ctr_actions.specs.Sites.{site_of}
-use Rattle.ctr_store.specs.Store.{View, LeavesPage}
-use Rattle.ctr_page_turns.specs.Rooms.{AddsItems}
-use Rattle.ctr_cursor.specs.declared.position.Position.{Position}
-use Rattle.ctr_cursor.specs.Pass.{next_position}
-use Rattle.ctr_cursor.specs.Standing.{IsCountedPosition}
+use Rattle.ctr_walk.specs.store_Store.{View, LeavesPage}
+use Rattle.ctr_emptying.specs.page_turns_Rooms.{AddsItems}
+use Rattle.ctr_emptying.specs.cursor_Position.{Position}
+use Rattle.ctr_emptying.specs.cursor_Pass.{next_position}
+use Rattle.ctr_emptying.specs.cursor_Standing.{IsCountedPosition}
 use Rattle.ctr_cleaner.specs.declared.done.CleanTurn.{CleanTurn}
 use Rattle.ctr_cleaner.specs.declared.done.CleanTurn.TheVariants.{Moved, Over}
 use Rattle.ctr_cleaner.specs.declared.done.MayEmpty.{MayEmpty}

@@ -3,17 +3,17 @@ use Rattle.std.specs.Prelude.{◌≡◌, ℕ, ◌<◌, ℤ, true, false}
 use Rattle.ctr_page.specs.declared.rows.Place.{Place}
 use Rattle.ctr_locks.specs.Held.{session_locks}
 use Rattle.ctr_area.specs.Images.{is_live}
-use Rattle.ctr_redo.specs.States.{State}
-use Rattle.ctr_record_effects.specs.States.{area_in}
+use Rattle.ctr_walk.specs.redo_States.{State}
+use Rattle.ctr_walk.specs.record_effects_States.{area_in}
 use Rattle.ctr_record_laws.specs.Owed.{Reverting, OwedByRevert, Trimming, OwedByTrim, OwedByUnlink, OwedByOlderUnlink, OwedByFreeing}
-use Rattle.ctr_clean.specs.Choosing.{passes_below}
-use Rattle.ctr_clean.specs.Cutting.{OwesCut}
-use Rattle.ctr_clean.specs.Lists.{HasNoForget}
-use Rattle.ctr_clean.specs.Older.{IsLooseIn}
-use Rattle.ctr_clean.specs.Steps.{Locks}
-use Rattle.ctr_clean.specs.Tables.{OwesDying}
-use Rattle.ctr_cursor.specs.declared.position.Position.{Position}
-use Rattle.ctr_cursor.specs.declared.position.Position.TheVariants.{Entry, Slot, Kept, Aborted}
+use Rattle.ctr_emptying.specs.clean_Choosing.{passes_below}
+use Rattle.ctr_emptying.specs.clean_Cutting.{OwesCut}
+use Rattle.ctr_emptying.specs.clean_Lists.{HasNoForget}
+use Rattle.ctr_emptying.specs.clean_Older.{IsLooseIn}
+use Rattle.ctr_emptying.specs.clean_Steps.{Locks}
+use Rattle.ctr_emptying.specs.clean_Tables.{OwesDying}
+use Rattle.ctr_emptying.specs.cursor_Position.{Position}
+use Rattle.ctr_emptying.specs.cursor_Position.TheVariants.{Entry, Slot, Kept, Aborted}
 use Rattle.ctr_emptying.specs.Emptying.{HasNoRows, is_creator_open}
 use Rattle.ctr_locking.specs.Locking.{IsNamedAs}
 

@@ -7,22 +7,22 @@ use Rattle.ctr_meta.specs.Kept.{TablesKept}
 use Rattle.ctr_page.specs.declared.rows.Place.{Place}
 use Rattle.ctr_area.specs.Chains.{slot_places}
 use Rattle.ctr_area.specs.Sound.{IsAmong}
-use Rattle.ctr_redo.specs.States.{State}
-use Rattle.ctr_record_effects.specs.States.{area_in}
+use Rattle.ctr_walk.specs.redo_States.{State}
+use Rattle.ctr_walk.specs.record_effects_States.{area_in}
 use Rattle.ctr_record_laws.specs.Owed.{OwedByUnlink, OwedByOlderUnlink, OwedByFreeing}
-use Rattle.ctr_store.specs.Store.{View}
-use Rattle.ctr_page_turns.specs.Rooms.{AddsItems}
-use Rattle.ctr_page_turns.specs.Turns.{Turns}
-use Rattle.ctr_cleaning.specs.Sparing.{IsUnlockedAs}
+use Rattle.ctr_walk.specs.store_Store.{View}
+use Rattle.ctr_emptying.specs.page_turns_Rooms.{AddsItems}
+use Rattle.ctr_emptying.specs.page_turns_Turns.{Turns}
+use Rattle.ctr_locking.specs.cleaning_Sparing.{IsUnlockedAs}
 use Rattle.ctr_locking.specs.Locking.{names_of}
-use Rattle.ctr_clean.specs.Lists.{HasNoFree}
-use Rattle.ctr_clean.specs.Steps.{Locks, IsUnlocked}
-use Rattle.ctr_clean.specs.declared.steps.Step.{Step}
-use Rattle.ctr_clean.specs.declared.steps.Step.TheVariants as step
+use Rattle.ctr_emptying.specs.clean_Lists.{HasNoFree}
+use Rattle.ctr_emptying.specs.clean_Steps.{Locks, IsUnlocked}
+use Rattle.ctr_emptying.specs.clean_Step.{Step}
+use Rattle.ctr_emptying.specs.clean_Step.TheVariants as step
 use Rattle.ctr_emptying.specs.Emptying.{HasNoRows, is_creator_open}
 use Rattle.ctr_emptying.specs.declared.emptied.Emptied.{Emptied}
 use Rattle.ctr_emptying.specs.declared.emptied.Emptied.TheVariants as emptied
-use Rattle.ctr_cursor.specs.declared.position.Position.{Position}
+use Rattle.ctr_emptying.specs.cursor_Position.{Position}
 use Rattle.ctr_cleaner.specs.declared.done.CleanTurn.{CleanTurn}
 use Rattle.ctr_cleaner.specs.declared.done.CleanTurn.TheVariants as turn
 use Rattle.ctr_cleaner.specs.declared.done.Logged.{Logged}

@@ -4,22 +4,22 @@ use Rattle.ctr_rec.specs.declared.record.SlogItem.TheVariants.{FreeOf}
 use Rattle.ctr_meta.specs.Kept.{TablesKept}
 use Rattle.ctr_area.specs.Areas.{Title, Area}
 use Rattle.ctr_area.specs.Sound.{IsAmong}
-use Rattle.ctr_redo.specs.States.{State}
+use Rattle.ctr_walk.specs.redo_States.{State}
 use Rattle.ctr_actions.specs.Sites.{Site, site_of}
 use Rattle.ctr_actions.specs.Actions.{Action, Reverts, Trims, Cuts, FreesOlder, FreesEntry, Reclaims, Unlinks, UnlinksOlder}
 use Rattle.ctr_actions.specs.Cleaning.{IsCleaning}
-use Rattle.ctr_store.specs.Store.{View}
+use Rattle.ctr_walk.specs.store_Store.{View}
 use Rattle.ctr_walk.specs.OneRecord.{HasRoomForOne}
-use Rattle.ctr_page_turns.specs.Acts.{ActsBy}
-use Rattle.ctr_page_turns.specs.Rooms.{AddsItems}
-use Rattle.ctr_cleaning.specs.Sparing.{IsUnlockedAs}
+use Rattle.ctr_emptying.specs.page_turns_Acts.{ActsBy}
+use Rattle.ctr_emptying.specs.page_turns_Rooms.{AddsItems}
+use Rattle.ctr_locking.specs.cleaning_Sparing.{IsUnlockedAs}
 use Rattle.ctr_locking.specs.Locking.{names_of}
-use Rattle.ctr_clean.specs.Choosing.{passes_below}
-use Rattle.ctr_clean.specs.Lists.{HasNoFree}
-use Rattle.ctr_clean.specs.Steps.{Locks}
-use Rattle.ctr_cursor.specs.declared.position.Position.{Position}
-use Rattle.ctr_cursor.specs.Pass.{next_position}
-use Rattle.ctr_cursor.specs.Standing.{IsCountedPosition, TakesPage}
+use Rattle.ctr_emptying.specs.clean_Choosing.{passes_below}
+use Rattle.ctr_emptying.specs.clean_Lists.{HasNoFree}
+use Rattle.ctr_emptying.specs.clean_Steps.{Locks}
+use Rattle.ctr_emptying.specs.cursor_Position.{Position}
+use Rattle.ctr_emptying.specs.cursor_Pass.{next_position}
+use Rattle.ctr_emptying.specs.cursor_Standing.{IsCountedPosition, TakesPage}
 use Rattle.ctr_cleaner.specs.declared.done.MayEmpty.{MayEmpty}
 use Rattle.ctr_cleaner.specs.declared.done.CleanTurn.{CleanTurn}
 use Rattle.ctr_cleaner.specs.declared.done.CleanTurn.TheVariants.{Cleaned, Unlinked, Reclaimed, Moved, Over}

@@ -2,10 +2,8 @@
 ghost use Rattle.std.specs.Prelude.{◌≡◌};
 ghost use Rattle.ctr_cleaner.specs.Parts.{turn_logged, done_step, done_reclaim, done_freed, done_unlinked};
 
-use ctr_clean::Step;
-use ctr_cursor::Position;
 use ctr_disk::StoreFault;
-use ctr_emptying::Emptied;
+use ctr_emptying::{Emptied, Position, Step};
 
 /// What a turn may do in a table that is dead.
 #[derive(Clone, Copy, Debug, PartialEq, Eq)]

@@ -1,22 +1,20 @@
 // In a table that is dead.
 ghost use Rattle.std.specs.Prelude.{◌≡◌, ◌<◌, true, false, IfOk, IfErr};
 ghost use Rattle.ctr_disk.specs.declared.fault.StoreFault.TheVariants.{Fault};
-ghost use Rattle.ctr_base.specs.Base.{WhereSound};
-ghost use Rattle.ctr_record_effects.specs.States.{area_in};
-ghost use Rattle.ctr_record_effects.specs.Standing.{IsDatabaseState};
+ghost use Rattle.ctr_walk.specs.base_Base.{WhereSound};
+ghost use Rattle.ctr_walk.specs.record_effects_States.{area_in};
+ghost use Rattle.ctr_walk.specs.record_effects_Standing.{IsDatabaseState};
 ghost use Rattle.ctr_walk.specs.OneRecord.{HasRoomForOne};
-ghost use Rattle.ctr_cursor.specs.declared.position.Position.TheVariants.{Entry};
+ghost use Rattle.ctr_emptying.specs.cursor_Position.TheVariants.{Entry};
 ghost use Rattle.ctr_cleaner.specs.Finding.{HasNothingInDead};
 ghost use Rattle.ctr_cleaner.specs.Turning.{Heeded, MayAll, HasRoomFor};
 ghost use Rattle.ctr_cleaner.specs.Parts.{Tries, DidAt, HasNoRowsToGo, HasNoPageToGo, HasNoEntryToFree};
 
 use crate::done::{Done, MayEmpty, freed, unlinked};
 use crate::going::{a_part_goes_on, a_step_is_a_part};
-use ctr_base::Origin;
 use ctr_disk::{Disk, StoreFault};
-use ctr_emptying::{free_entry_at, unlink_rows_at, unlink_versions_at};
-use ctr_page_turns::room_is_still_there;
-use ctr_store::Store;
+use ctr_emptying::{free_entry_at, room_is_still_there, unlink_rows_at, unlink_versions_at};
+use ctr_walk::{Origin, Store};
 
 /// The buckets of a table.
 const BUCKETS: u8 = 8;

@@ -1,11 +1,11 @@
 // At an entry of the catalog.
 ghost use Rattle.std.specs.Prelude.{◌≡◌, ◌<◌, ℕ, IfOk, IfErr};
 ghost use Rattle.ctr_disk.specs.declared.fault.StoreFault.TheVariants.{Fault};
-ghost use Rattle.ctr_base.specs.Base.{WhereSound};
-ghost use Rattle.ctr_record_effects.specs.States.{area_in};
-ghost use Rattle.ctr_record_effects.specs.Standing.{IsDatabaseState};
-ghost use Rattle.ctr_clean.specs.Steps.{Locks};
-ghost use Rattle.ctr_cursor.specs.declared.position.Position.TheVariants.{Entry};
+ghost use Rattle.ctr_walk.specs.base_Base.{WhereSound};
+ghost use Rattle.ctr_walk.specs.record_effects_States.{area_in};
+ghost use Rattle.ctr_walk.specs.record_effects_Standing.{IsDatabaseState};
+ghost use Rattle.ctr_emptying.specs.clean_Steps.{Locks};
+ghost use Rattle.ctr_emptying.specs.cursor_Position.TheVariants.{Entry};
 ghost use Rattle.ctr_cleaner.specs.Finding.{IsFreeRow, HasNothingAt, HasNothingInDead};
 ghost use Rattle.ctr_cleaner.specs.Turning.{Heeded, MayAll, heeding, HasRoomFor};
 ghost use Rattle.ctr_cleaner.specs.Parts.{Tries, DidAt};
@@ -14,12 +14,11 @@ use crate::done::{Done, MayEmpty, stepped};
 use crate::emptying::empty_entry;
 use crate::going::{a_part_goes_on, a_part_reads, a_step_is_a_part};
 use crate::states::is_dead;
-use ctr_base::Origin;
-use ctr_clean::make_dead_at;
 use ctr_disk::{Disk, StoreFault};
-use ctr_store::Store;
-use ctr_titles::{TitleRead, title_at};
+use ctr_emptying::make_dead_at;
+use ctr_locking::{TitleRead, title_at};
 use ctr_types::Xid;
+use ctr_walk::{Origin, Store};
 
 /// At an entry, where it is dead.
 fn clean_dead<D: Disk, O: Origin>(

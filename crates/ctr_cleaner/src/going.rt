@@ -2,15 +2,15 @@
 ghost use Rattle.std.specs.Prelude.{◌≡◌, ℕ, Bool, false, true, None, Ok, Err, Result, IfOk, OnOk};
 ghost use Rattle.ctr_disk.specs.Image.{Image};
 ghost use Rattle.ctr_disk.specs.declared.fault.StoreFault.{StoreFault};
-ghost use Rattle.ctr_base.specs.Base.{WhereSound};
-ghost use Rattle.ctr_store.specs.Store.{View, LeavesFront, LeavesPage};
+ghost use Rattle.ctr_walk.specs.base_Base.{WhereSound};
+ghost use Rattle.ctr_walk.specs.store_Store.{View, LeavesFront, LeavesPage};
 ghost use Rattle.ctr_walk.specs.Damage.{ReadsPages};
 ghost use Rattle.ctr_walk.specs.OneRecord.{HasRoomForOne};
-ghost use Rattle.ctr_page_turns.specs.Rooms.{AddsItems};
-ghost use Rattle.ctr_page_turns.specs.Turns.{Turns};
-ghost use Rattle.ctr_clean.specs.declared.steps.Step.{Step as StepOf};
-ghost use Rattle.ctr_clean.specs.Steps.{next_stepped};
-ghost use Rattle.ctr_clean.specs.Lists.{TakesItem};
+ghost use Rattle.ctr_emptying.specs.page_turns_Rooms.{AddsItems};
+ghost use Rattle.ctr_emptying.specs.page_turns_Turns.{Turns};
+ghost use Rattle.ctr_emptying.specs.clean_Step.{Step as StepOf};
+ghost use Rattle.ctr_emptying.specs.clean_Steps.{next_stepped};
+ghost use Rattle.ctr_emptying.specs.clean_Lists.{TakesItem};
 ghost use Rattle.ctr_emptying.specs.declared.emptied.Emptied.{Emptied as EmptiedOf};
 ghost use Rattle.ctr_emptying.specs.Emptying.{next_emptied};
 ghost use Rattle.ctr_cleaner.specs.Turning.{HasRoomFor};
@@ -18,7 +18,7 @@ ghost use Rattle.ctr_cleaner.specs.Parts.{Done as DoneOf, Tries, done_step, done
 
 use crate::done::Done;
 use ctr_disk::Disk;
-use ctr_page_turns::{a_turn_goes_on, room_is_still_there};
+use ctr_emptying::{a_turn_goes_on, room_is_still_there};
 
 /// A step is a part of a turn.
 pub(crate) fn a_step_is_a_part<D: Disk>()

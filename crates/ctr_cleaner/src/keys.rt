@@ -1,18 +1,17 @@
 // Whether a key is open to the cleaner.
 ghost use Rattle.std.specs.Prelude.{◌≡◌, ◌≢◌, ◌<◌, false, IfOk, IfErr};
 ghost use Rattle.ctr_disk.specs.declared.fault.StoreFault.TheVariants.{Fault};
-ghost use Rattle.ctr_base.specs.Base.{WhereSound};
-ghost use Rattle.ctr_record_effects.specs.States.{area_in};
-ghost use Rattle.ctr_record_effects.specs.Standing.{IsDatabaseState};
+ghost use Rattle.ctr_walk.specs.base_Base.{WhereSound};
+ghost use Rattle.ctr_walk.specs.record_effects_States.{area_in};
+ghost use Rattle.ctr_walk.specs.record_effects_Standing.{IsDatabaseState};
 ghost use Rattle.ctr_walk.specs.Damage.{ReadsPages};
 ghost use Rattle.ctr_cleaner.specs.Parts.{KeySaid};
 
-use ctr_base::Origin;
 use ctr_disk::{Disk, StoreFault};
 use ctr_locking::is_locked;
 use ctr_locks::KeyLocks;
 use ctr_model::Key;
-use ctr_store::Store;
+use ctr_walk::{Origin, Store};
 
 /// Whether no session has locked a key in an entry, or in another of its table's name. Where one has locked it in this entry, no page is read.
 pub(crate) fn is_open_key<D: Disk, O: Origin>(

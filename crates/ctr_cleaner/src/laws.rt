@@ -1,19 +1,19 @@
 // What a pass says that finds nothing. A call does nothing: what it ensures is the law.
 ghost use Rattle.std.specs.Prelude.{◌≡◌, ◌≤◌, ℕ, ℤ, false, List, []};
-ghost use Rattle.ctr_redo.specs.States.{State};
+ghost use Rattle.ctr_walk.specs.redo_States.{State};
 ghost use Rattle.ctr_area.specs.Sound.{IsAmong, IsBare};
-ghost use Rattle.ctr_record_effects.specs.States.{area_in};
-ghost use Rattle.ctr_record_effects.specs.Standing.{IsDatabaseState};
+ghost use Rattle.ctr_walk.specs.record_effects_States.{area_in};
+ghost use Rattle.ctr_walk.specs.record_effects_Standing.{IsDatabaseState};
 ghost use Rattle.ctr_actions.specs.Sites.{site_of};
 ghost use Rattle.ctr_locks.specs.Held.{session_locks};
-ghost use Rattle.ctr_clean.specs.Lists.{HasNoFree};
-ghost use Rattle.ctr_clean.specs.Steps.{Locks};
-ghost use Rattle.ctr_cursor.specs.declared.position.Position.{Position as PositionOf};
-ghost use Rattle.ctr_cursor.specs.Pass.{IsWholePass};
+ghost use Rattle.ctr_emptying.specs.clean_Lists.{HasNoFree};
+ghost use Rattle.ctr_emptying.specs.clean_Steps.{Locks};
+ghost use Rattle.ctr_emptying.specs.cursor_Position.{Position as PositionOf};
+ghost use Rattle.ctr_emptying.specs.cursor_Pass.{IsWholePass};
 ghost use Rattle.ctr_cleaner.specs.Finding.{IsFreeRow, HasNothingAt};
 
 use ctr_actions::{a_site_with_nothing_to_clean_is_bare, pages_are_in_bounds};
-use ctr_cursor::a_pass_comes_by_every_place;
+use ctr_emptying::a_pass_comes_by_every_place;
 
 /// Where a whole pass finds nothing to do at any position, whichever rows are locked, no page waits to be free again, no transaction is open, and everybody sees what is
 /// committed, the pages are bare: nothing is left to clean.

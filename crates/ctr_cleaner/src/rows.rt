@@ -1,17 +1,17 @@
 // At a slot.
 ghost use Rattle.std.specs.Prelude.{◌≡◌, ◌≢◌, ◌<◌, ℕ, true, false, IfOk, IfErr};
 ghost use Rattle.ctr_disk.specs.declared.fault.StoreFault.TheVariants.{Fault};
-ghost use Rattle.ctr_base.specs.Base.{WhereSound};
+ghost use Rattle.ctr_walk.specs.base_Base.{WhereSound};
 ghost use Rattle.ctr_area.specs.Chains.{slot_places};
 ghost use Rattle.ctr_area.specs.Images.{is_live as is_live_title};
 ghost use Rattle.ctr_area.specs.Sound.{IsAmong};
-ghost use Rattle.ctr_record_effects.specs.States.{area_in};
-ghost use Rattle.ctr_record_effects.specs.Standing.{IsDatabaseState};
+ghost use Rattle.ctr_walk.specs.record_effects_States.{area_in};
+ghost use Rattle.ctr_walk.specs.record_effects_Standing.{IsDatabaseState};
 ghost use Rattle.ctr_actions.specs.Sites.{site_of};
 ghost use Rattle.ctr_walk.specs.Damage.{ReadsPages};
 ghost use Rattle.ctr_walk.specs.OneRecord.{HasRoomForOne};
-ghost use Rattle.ctr_cursor.specs.declared.position.Position.TheVariants.{Slot};
-ghost use Rattle.ctr_cursor.specs.Standing.{IsPosition};
+ghost use Rattle.ctr_emptying.specs.cursor_Position.TheVariants.{Slot};
+ghost use Rattle.ctr_emptying.specs.cursor_Standing.{IsPosition};
 ghost use Rattle.ctr_cleaner.specs.Finding.{IsFreeRow, HasNothingAt, HasNothingInSlot};
 ghost use Rattle.ctr_cleaner.specs.declared.done.MayEmpty.{MayEmpty};
 ghost use Rattle.ctr_cleaner.specs.Turning.{heeding};
@@ -21,15 +21,14 @@ use crate::done::{Done, stepped};
 use crate::going::{a_part_goes_on, a_part_reads, a_step_is_a_part};
 use crate::keys::is_open_key;
 use crate::states::is_live;
-use ctr_base::Origin;
-use ctr_clean::{clean_slot, cut_at, look_at, revert_at};
 use ctr_disk::{Disk, StoreFault};
+use ctr_emptying::{clean_slot, cut_at, look_at, revert_at};
+use ctr_locking::{TitleRead, title_at};
 use ctr_locks::KeyLocks;
 use ctr_model::Key;
 use ctr_page::Place;
-use ctr_store::Store;
-use ctr_titles::{TitleRead, title_at};
 use ctr_types::Xid;
+use ctr_walk::{Origin, Store};
 
 /// Whether the slot at a place is used and its row isn't locked, in an entry of its table's name.
 fn is_open<D: Disk, O: Origin>(

@@ -2,10 +2,10 @@
 ghost use Rattle.std.specs.Prelude.{◌≡◌, ◌==◌};
 ghost use Rattle.ctr_area.specs.Areas.{Title};
 ghost use Rattle.ctr_area.specs.Images.{is_live as is_live_title};
-ghost use Rattle.ctr_titles.specs.Titles.{IsTitle};
+ghost use Rattle.ctr_locking.specs.titles_Titles.{IsTitle};
 
+use ctr_locking::TitleRead;
 use ctr_page::EntryState;
-use ctr_titles::TitleRead;
 
 /// Whether an entry is live.
 pub(crate) fn is_live(title: &TitleRead) -> bool

@@ -1,11 +1,11 @@
 // A turn of the cleaner.
 ghost use Rattle.std.specs.Prelude.{◌≡◌, ℕ, IfOk, IfErr};
 ghost use Rattle.ctr_disk.specs.declared.fault.StoreFault.TheVariants.{Fault};
-ghost use Rattle.ctr_base.specs.Base.{WhereSound};
-ghost use Rattle.ctr_record_effects.specs.Standing.{IsDatabaseState};
+ghost use Rattle.ctr_walk.specs.base_Base.{WhereSound};
+ghost use Rattle.ctr_walk.specs.record_effects_Standing.{IsDatabaseState};
 ghost use Rattle.ctr_actions.specs.Sites.{site_of};
-ghost use Rattle.ctr_page_turns.specs.Turns.{Turns};
-ghost use Rattle.ctr_cursor.specs.Standing.{IsPosition, IsCountedPosition};
+ghost use Rattle.ctr_emptying.specs.page_turns_Turns.{Turns};
+ghost use Rattle.ctr_emptying.specs.cursor_Standing.{IsPosition, IsCountedPosition};
 ghost use Rattle.ctr_cleaner.specs.Finding.{IsFreeRow, HasNothingAt};
 ghost use Rattle.ctr_cleaner.specs.Turning.{heeding, MayAll, TurnsAt, HasRoomFor, LeavesCounts};
 ghost use Rattle.ctr_cleaner.specs.Parts.{Tries, DidAt, IsPassed};
@@ -15,14 +15,11 @@ use crate::entries::clean_entry;
 use crate::going::{a_part_goes_on, a_step_is_a_part};
 use crate::kept::clean_kept;
 use crate::rows::clean_row;
-use ctr_base::Origin;
-use ctr_clean::{forget_at, reclaim};
-use ctr_cursor::{Position, advance};
 use ctr_disk::{Disk, StoreFault};
+use ctr_emptying::{Position, a_turn_goes_on, advance, forget_at, reclaim};
 use ctr_locks::KeyLocks;
-use ctr_page_turns::a_turn_goes_on;
-use ctr_store::Store;
 use ctr_types::Xid;
+use ctr_walk::{Origin, Store};
 
 /// What there is to do at a position.
 fn clean_at<D: Disk, O: Origin>(

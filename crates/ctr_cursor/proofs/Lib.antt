@@ -7,3 +7,4 @@ pub mod Rooms
 pub mod Leads
 pub use Rattle.ctr_reading.proofs.Told as reading_Told
 pub use Rattle.ctr_reading.proofs.Gathers as reading_Gathers
+pub use Rattle.ctr_reading.proofs.Places as reading_Places

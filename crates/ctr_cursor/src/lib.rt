@@ -13,7 +13,9 @@ mod there;
 pub use advancing::advance;
 pub use ctr_reading::{
     a_place_of_a_table_fits, a_row_is_read_without_damage, a_version_entry_is_read_without_damage,
+    slots_on,
 };
+pub use ctr_walk::first_page;
 pub use laws::{
     a_pass_comes_by_every_place, a_pass_goes_from_position_to_position, a_pass_goes_on,
 };

@@ -18,9 +18,9 @@ use Rattle.ctr_area.specs.Areas.{Firsts, Area, no_pages}
 use Rattle.ctr_area.specs.Reading.{entry_bytes, bucket_numbers}
 use Rattle.ctr_area.specs.Chains.{pages_bound, pages_from}
 use Rattle.ctr_area.specs.Sound.{IsAmong}
-use Rattle.ctr_base.specs.Base.{IsSoundImage}
-use Rattle.ctr_redo.specs.States.{State}
-use Rattle.ctr_store.specs.Store.{View}
+use Rattle.ctr_walk.specs.base_Base.{IsSoundImage}
+use Rattle.ctr_walk.specs.redo_States.{State}
+use Rattle.ctr_walk.specs.store_Store.{View}
 use Rattle.ctr_walk.specs.OneRecord.{LogsOne}
 use Rattle.ctr_walk.specs.Damage.{EndsOnPage, EndsTold}
 use Rattle.ctr_record_laws.proofs.Bounds.{pages_bounded}
@@ -28,8 +28,8 @@ use Rattle.ctr_record_laws.proofs.Ends.{steps, page_goes_on}
 use Rattle.ctr_record_laws.specs.Owed.{OwedByUnlink, OwedByOlderUnlink}
 use Rattle.ctr_record_effects.specs.States.{pages_in, area_in}
 use Rattle.ctr_record_effects.specs.Standing.{IsDatabaseState}
-use Rattle.ctr_passed.proofs.Pagewise.{page_by_page}
-use Rattle.ctr_undamaged.proofs.Inside.{on_bucket, on_versions}
+use Rattle.ctr_pvs.proofs.passed_Pagewise.{page_by_page}
+use Rattle.ctr_trim.proofs.undamaged_Inside.{on_bucket, on_versions}
 use Rattle.ctr_dead.specs.Unlinking.{leaving_record, OwedByLeaving, NextSaid, LeavesItsChain}
 
 -- a chain that begins at a page has it

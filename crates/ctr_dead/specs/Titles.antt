@@ -5,7 +5,7 @@ use Rattle.ctr_rec.specs.declared.record.Record.TheVariants.{Trim}
 use Rattle.ctr_area.specs.Areas.{Title, Area, no_pages}
 use Rattle.ctr_area.specs.Changes.{with_title, with_firsts}
 use Rattle.ctr_record_effects.specs.Changing.{laid_in_entry}
-use Rattle.ctr_actions.specs.Actions.{Action, FreesEntry}
+use Rattle.ctr_alloc.specs.actions_Actions.{Action, FreesEntry}
 
 -- the record by which a dropped table's entry is dead
 abbrev pub dying_record : ℕ → Record

@@ -12,15 +12,15 @@ use Rattle.ctr_page.specs.declared.table.TheConstants.{FIRSTS_AT, VERSIONS_AT}
 use Rattle.ctr_page.specs.Damage.{header_check}
 use Rattle.ctr_page.specs.Reading.{header_in}
 use Rattle.ctr_area.specs.Areas.{Area}
-use Rattle.ctr_base.specs.Base.{IsSoundImage}
-use Rattle.ctr_store.specs.Store.{View}
+use Rattle.ctr_walk.specs.base_Base.{IsSoundImage}
+use Rattle.ctr_walk.specs.store_Store.{View}
 use Rattle.ctr_walk.specs.OneRecord.{WhyNotLogged, LogsOne}
 use Rattle.ctr_walk.specs.Damage.{EndsOnPage, EndsTold, ReadsPages}
 use Rattle.ctr_meta.specs.Tables.{Tables}
 use Rattle.ctr_record_effects.specs.States.{pages_in}
 use Rattle.ctr_record_effects.specs.Changing.{unlink_record, unlink_older_record}
 use Rattle.ctr_record_laws.specs.Owed.{OwedByUnlink, OwedByOlderUnlink}
-use Rattle.ctr_actions.specs.Actions.{Action, Unlinks, UnlinksOlder}
+use Rattle.ctr_alloc.specs.actions_Actions.{Action, Unlinks, UnlinksOlder}
 
 -- where an entry of the catalog has the first page of a chain
 abbrev pub front_at : Chain → ℕ

@@ -1,8 +1,8 @@
 // One record gives back a page that left its chain, or forgets a rolled back transaction.
 ghost use Rattle.std.specs.Prelude.{◌≡◌, ◌<◌, ℕ, OnOk, IfErr};
 ghost use Rattle.ctr_disk.specs.declared.fault.StoreFault.TheVariants.{Fault};
-ghost use Rattle.ctr_base.specs.declared.growing.TheConstants.{MOST_PAGES};
-ghost use Rattle.ctr_base.specs.Base.{WhereSound};
+ghost use Rattle.ctr_walk.specs.base_growing_TheConstants.{MOST_PAGES};
+ghost use Rattle.ctr_walk.specs.base_Base.{WhereSound};
 ghost use Rattle.ctr_rec.specs.declared.record.SlogItem.TheVariants.{FreeOf};
 ghost use Rattle.ctr_rec.specs.declared.record.Record.TheVariants.{Forget};
 ghost use Rattle.ctr_area.specs.Sound.{IsAmong};
@@ -11,20 +11,17 @@ ghost use Rattle.ctr_record_effects.specs.States.{IsWholePage};
 ghost use Rattle.ctr_record_effects.specs.Changing.{free_record};
 ghost use Rattle.ctr_record_effects.specs.Standing.{IsDatabaseState};
 ghost use Rattle.ctr_record_laws.specs.Owed.{OwedByForget};
-ghost use Rattle.ctr_actions.specs.Sites.{site_of};
-ghost use Rattle.ctr_actions.specs.Actions.{Reclaims, Forgets, site_after};
-ghost use Rattle.ctr_page_turns.specs.Acts.{ActsBy};
+ghost use Rattle.ctr_alloc.specs.actions_Sites.{site_of};
+ghost use Rattle.ctr_alloc.specs.actions_Actions.{Reclaims, Forgets, site_after};
+ghost use Rattle.ctr_trim.specs.page_turns_Acts.{ActsBy};
 
-use ctr_actions::a_logged_record_is_its_action;
-use ctr_alloc::free;
-use ctr_base::Origin;
+use ctr_alloc::{a_logged_record_is_its_action, free};
 use ctr_disk::{Disk, StoreFault};
-use ctr_page_turns::{a_record_acts, a_record_is_refused_by_the_disk_alone};
-use ctr_passed::{pages_lie_as_their_actions, records_without_bytes_lie_as_their_actions};
+use ctr_pvs::records_without_bytes_lie_as_their_actions;
 use ctr_rec::{PageNo, Record};
-use ctr_store::Store;
+use ctr_trim::{a_record_acts, a_record_is_refused_by_the_disk_alone, pages_lie_as_their_actions};
 use ctr_types::Xid;
-use ctr_walk::{a_record_may_be_logged, log_record};
+use ctr_walk::{Origin, Store, a_record_may_be_logged, log_record};
 
 /// Gives back a page that left its chain, by one record, which isn't hardened yet: it is free again. It takes no memory.
 pub fn give_back<D: Disk, O: Origin>(store: &mut Store<D, O>, p: PageNo) -> Result<(), StoreFault>

@@ -1,7 +1,7 @@
 // What a Trim of an entry of the catalog does to the area. A call does nothing: what it ensures is the law.
 ghost use Rattle.std.specs.Prelude.{◌≡◌, ◌≢◌, ◌<◌, ◌/◌, ◌+◌, ℕ, [], ◌∷◌};
 ghost use Rattle.ctr_rec.specs.declared.record.Record.{Record};
-ghost use Rattle.ctr_redo.specs.States.{State, step};
+ghost use Rattle.ctr_walk.specs.redo_States.{State, step};
 ghost use Rattle.ctr_area.specs.Areas.{no_pages};
 ghost use Rattle.ctr_area.specs.Changes.{with_title, ChangesEntry};
 ghost use Rattle.ctr_record_effects.specs.States.{area_in, IsWholePage};

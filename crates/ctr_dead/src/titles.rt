@@ -1,28 +1,26 @@
 // One record makes a table dead, or frees its entry.
 ghost use Rattle.std.specs.Prelude.{◌≡◌, ◌≢◌, ◌<◌, ◌+◌, ◌/◌, ℕ, Bool, OnOk, IfErr};
 ghost use Rattle.ctr_disk.specs.declared.fault.StoreFault.TheVariants.{Fault};
-ghost use Rattle.ctr_base.specs.Base.{WhereSound};
+ghost use Rattle.ctr_walk.specs.base_Base.{WhereSound};
 ghost use Rattle.ctr_walk.specs.OneRecord.{HasRoomForOne, LogsOne};
 ghost use Rattle.ctr_record_effects.specs.States.{area_in, IsWholePage};
 ghost use Rattle.ctr_record_effects.specs.Standing.{IsDatabaseState};
 ghost use Rattle.ctr_record_laws.specs.Owed.{OwedByDying, OwedByFreeing};
-ghost use Rattle.ctr_actions.specs.Sites.{site_of};
-ghost use Rattle.ctr_actions.specs.Actions.{MakesDead, site_after};
-ghost use Rattle.ctr_page_turns.specs.Acts.{ActsBy};
+ghost use Rattle.ctr_alloc.specs.actions_Sites.{site_of};
+ghost use Rattle.ctr_alloc.specs.actions_Actions.{MakesDead, site_after};
+ghost use Rattle.ctr_trim.specs.page_turns_Acts.{ActsBy};
 ghost use Rattle.ctr_dead.specs.Titles.{dying_record, freed_record, frees};
 
 use crate::laws::a_trimmed_entry_changes_alone;
-use ctr_actions::a_logged_record_is_its_action;
-use ctr_base::Origin;
+use ctr_alloc::a_logged_record_is_its_action;
 use ctr_disk::{Disk, StoreFault};
-use ctr_page_turns::{a_record_acts, a_record_is_refused_by_the_disk_alone};
-use ctr_passed::{
-    owed_records_are_laid_as_their_actions, tables_lie_as_their_actions, tables_pass_their_checks,
-};
 use ctr_rec::Record;
 use ctr_record_effects::over_entry;
-use ctr_store::Store;
-use ctr_walk::{catalog_page, log_on_page};
+use ctr_trim::{
+    a_record_acts, a_record_is_refused_by_the_disk_alone, owed_records_are_laid_as_their_actions,
+    tables_lie_as_their_actions, tables_pass_their_checks,
+};
+use ctr_walk::{Origin, Store, catalog_page, log_on_page};
 
 /// Makes the table of an entry of the catalog dead, by one record, which isn't hardened yet. It takes no memory.
 pub fn make_dead<D: Disk, O: Origin>(store: &mut Store<D, O>, entry: u8) -> Result<(), StoreFault>

@@ -2,9 +2,9 @@
 ghost use Rattle.std.specs.Prelude.{◌≡◌, ◌≢◌, ◌≤◌, ◌<◌, ◌+◌, ◌/◌, ℕ, false, OnOk, IfOk, IfErr, length};
 ghost use Rattle.ctr_bytes.specs.Fields.{spelled};
 ghost use Rattle.ctr_disk.specs.declared.fault.StoreFault.TheVariants.{Fault};
-ghost use Rattle.ctr_base.specs.declared.growing.TheConstants.{MOST_PAGES};
-ghost use Rattle.ctr_base.specs.Base.{WhereSound};
-ghost use Rattle.ctr_store.specs.Store.{LeavesPage};
+ghost use Rattle.ctr_walk.specs.base_growing_TheConstants.{MOST_PAGES};
+ghost use Rattle.ctr_walk.specs.base_Base.{WhereSound};
+ghost use Rattle.ctr_walk.specs.store_Store.{LeavesPage};
 ghost use Rattle.ctr_page.specs.declared.table.TheConstants.{PAGE_SIZE};
 ghost use Rattle.ctr_page.specs.Damage.{chain_entry};
 ghost use Rattle.ctr_walk.specs.Tables.{IsChain};
@@ -12,23 +12,22 @@ ghost use Rattle.ctr_walk.specs.OneRecord.{HasRoomForOne, LogsOne};
 ghost use Rattle.ctr_walk.specs.Damage.{damage_told, searched, EndsOnPage};
 ghost use Rattle.ctr_record_effects.specs.States.{pages_in, area_in, IsWholePage};
 ghost use Rattle.ctr_record_effects.specs.Standing.{IsDatabaseState};
-ghost use Rattle.ctr_actions.specs.Sites.{site_of};
-ghost use Rattle.ctr_actions.specs.Actions.{site_after};
-ghost use Rattle.ctr_page_turns.specs.Acts.{ActsBy};
+ghost use Rattle.ctr_alloc.specs.actions_Sites.{site_of};
+ghost use Rattle.ctr_alloc.specs.actions_Actions.{site_after};
+ghost use Rattle.ctr_trim.specs.page_turns_Acts.{ActsBy};
 ghost use Rattle.ctr_dead.specs.Unlinking.{front_at, leaving_record, leaves_chain, OwedByLeaving, NextSaid, LeavesItsChain, EndsUnlinking};
 
-use ctr_actions::a_logged_record_is_its_action;
-use ctr_base::Origin;
+use ctr_alloc::a_logged_record_is_its_action;
 use ctr_bytes::put_u32;
 use ctr_disk::{Disk, StoreFault};
 use ctr_page::{BadPage, Chain, check_header, read_header};
-use ctr_page_turns::{a_record_acts, a_record_is_refused_by_the_disk_alone};
-use ctr_passed::owed_records_are_laid_as_their_actions;
 use ctr_rec::{PageNo, Record};
 use ctr_record_effects::{an_unlink_changes_its_chain, over_entry};
-use ctr_store::Store;
-use ctr_undamaged::a_table_can_be_linked_to;
-use ctr_walk::{SearchFault, catalog_page, found_on, log_on_page, tell};
+use ctr_trim::{
+    a_record_acts, a_record_is_refused_by_the_disk_alone, a_table_can_be_linked_to,
+    owed_records_are_laid_as_their_actions,
+};
+use ctr_walk::{Origin, SearchFault, Store, catalog_page, found_on, log_on_page, tell};
 
 /// Where the first pages of an entry of the catalog stand in it.
 const FIRSTS_AT: u8 = 179;

@@ -10,13 +10,13 @@ use Rattle.ctr_page.specs.declared.checks.Chain.{Chain}
 use Rattle.ctr_page.specs.declared.walk.BadChain.{BadChain}
 use Rattle.ctr_page.specs.declared.walk.BadChain.TheVariants.{OnPage, TooLong}
 use Rattle.ctr_page.specs.Damage.{chain_entry}
-use Rattle.ctr_redo.specs.States.{State}
-use Rattle.ctr_record_effects.specs.States.{pages_in}
-use Rattle.ctr_record_effects.specs.Standing.{IsDatabaseState}
-use Rattle.ctr_walk.specs.Tables.{EndsFirst}
-use Rattle.ctr_store.specs.Store.{View}
-use Rattle.ctr_walk.specs.Damage.{EndsTold, ReadsPages}
-use Rattle.ctr_walk.proofs.Damages.{reads_err}
+use Rattle.ctr_pvs.specs.redo_States.{State}
+use Rattle.ctr_pvs.specs.record_effects_States.{pages_in}
+use Rattle.ctr_pvs.specs.record_effects_Standing.{IsDatabaseState}
+use Rattle.ctr_pvs.specs.walk_Tables.{EndsFirst}
+use Rattle.ctr_pvs.specs.store_Store.{View}
+use Rattle.ctr_pvs.specs.walk_Damage.{EndsTold, ReadsPages}
+use Rattle.ctr_pvs.proofs.walk_Damages.{reads_err}
 use Rattle.ctr_pvs.specs.Reading.{row_check_at}
 use Rattle.ctr_pvs.specs.Slots.{SlotSaidAt}
 

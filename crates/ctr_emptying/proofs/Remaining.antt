@@ -3,12 +3,12 @@ use Rattle.std.proofs.Common.{◌≡◌, ◌≢◌, ℕ, zero, suc, ◌+◌, ◌
 use Rattle.std.specs.List.{AllByRecursion}
 use Rattle.std.proofs.lemmas.Bool.{eqb-true, eqb-false}
 use Rattle.ctr_page.specs.declared.rows.Place.{Place}
-use Rattle.ctr_redo.specs.States.{State}
+use Rattle.ctr_pvs.specs.redo_States.{State}
 use Rattle.ctr_area.specs.Areas.{Firsts, Area}
 use Rattle.ctr_area.specs.Chains.{places_from}
 use Rattle.ctr_area.specs.Sound.{IsAmong, IsUsedSlot}
 use Rattle.ctr_area.proofs.Buckets.{each_of, nothing_from_0}
-use Rattle.ctr_record_effects.specs.States.{pages_in, area_in}
+use Rattle.ctr_pvs.specs.record_effects_States.{pages_in, area_in}
 use Rattle.ctr_record_laws.specs.Owed.{first_page, OwedByOlderUnlink}
 use Rattle.ctr_record_laws.proofs.Bounds.{pages_bounded}
 use Rattle.ctr_record_laws.proofs.Members.{among_flat}

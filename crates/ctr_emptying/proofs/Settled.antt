@@ -5,19 +5,19 @@ use Rattle.std.proofs.lemmas.Bool.{true≢false, false≢true, eqb-true, eqb-fal
 use Rattle.ctr_page.specs.declared.checks.Chain.TheVariants.{Rows}
 use Rattle.ctr_page.specs.declared.rows.Place.{Place}
 use Rattle.ctr_meta.specs.Tables.{Tables}
-use Rattle.ctr_redo.specs.States.{State}
+use Rattle.ctr_pvs.specs.redo_States.{State}
 use Rattle.ctr_area.specs.Areas.{Area}
 use Rattle.ctr_area.specs.Chains.{pages_bound, pages_from, places_from}
 use Rattle.ctr_area.specs.Images.{is_committed_in}
 use Rattle.ctr_area.specs.Sound.{IsAmong, IsUsedSlot}
 use Rattle.ctr_area.proofs.Buckets.{on_chain}
-use Rattle.ctr_record_effects.specs.States.{area_in}
-use Rattle.ctr_record_effects.specs.Standing.{IsDatabaseState}
+use Rattle.ctr_pvs.specs.record_effects_States.{area_in}
+use Rattle.ctr_pvs.specs.record_effects_Standing.{IsDatabaseState}
 use Rattle.ctr_record_laws.specs.Owed.{first_page, OwedByUnlink}
 use Rattle.ctr_record_laws.proofs.Ends.{steps, page_goes_on}
 use Rattle.ctr_record_laws.proofs.Members.{among_flat}
-use Rattle.ctr_reading.specs.Gathering.{IsBucketPage}
-use Rattle.ctr_reading.proofs.Places.{page_slot}
+use Rattle.ctr_cursor.specs.reading_Gathering.{IsBucketPage}
+use Rattle.ctr_cursor.proofs.reading_Places.{page_slot}
 use Rattle.ctr_emptying.specs.Looking.{is_settled, place_of, SettledSaid, FrontSaid}
 
 module _ (tables : Tables) (area : Area) (p : ℕ) where

@@ -3,12 +3,12 @@ use Rattle.std.specs.Prelude.{◌≡◌, ℕ, ◌+◌, Bool, false}
 use Rattle.std.specs.List.{AllByRecursion}
 use Rattle.ctr_meta.specs.Tables.{is_in}
 use Rattle.ctr_area.specs.Areas.{Area}
-use Rattle.ctr_redo.specs.States.{State}
-use Rattle.ctr_record_effects.specs.States.{area_in}
+use Rattle.ctr_pvs.specs.redo_States.{State}
+use Rattle.ctr_pvs.specs.record_effects_States.{area_in}
 use Rattle.ctr_record_laws.specs.Owed.{OwedByUnlink, OwedByOlderUnlink, OwedByFreeing}
-use Rattle.ctr_actions.specs.Actions.{Unlinks, UnlinksOlder}
-use Rattle.ctr_page_turns.specs.Acts.{ActsBy}
-use Rattle.ctr_dead.specs.Titles.{frees}
+use Rattle.ctr_pvs.specs.actions_Actions.{Unlinks, UnlinksOlder}
+use Rattle.ctr_clean.specs.page_turns_Acts.{ActsBy}
+use Rattle.ctr_clean.specs.dead_Titles.{frees}
 use Rattle.ctr_emptying.specs.declared.emptied.Emptied.{Emptied}
 use Rattle.ctr_emptying.specs.declared.emptied.Emptied.TheVariants.{OneRecord, Nothing}
 

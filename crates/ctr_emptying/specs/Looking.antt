@@ -4,8 +4,8 @@ use Rattle.ctr_meta.specs.Tables.{Tables}
 use Rattle.ctr_page.specs.declared.rows.Place.{Place}
 use Rattle.ctr_area.specs.Areas.{Slot, Area}
 use Rattle.ctr_area.specs.Images.{is_committed_in}
-use Rattle.ctr_redo.specs.States.{State}
-use Rattle.ctr_record_effects.specs.States.{area_in}
+use Rattle.ctr_pvs.specs.redo_States.{State}
+use Rattle.ctr_pvs.specs.record_effects_States.{area_in}
 use Rattle.ctr_record_laws.specs.Owed.{first_page, OwedByFreeing}
 use Rattle.ctr_emptying.specs.declared.left.Left.{Left}
 use Rattle.ctr_emptying.specs.declared.left.Left.TheVariants.{Rows, Versions, NoPage}

@@ -1,26 +1,23 @@
 // The entry of a table that is dead.
 ghost use Rattle.std.specs.Prelude.{◌≡◌, ◌<◌, false, IfOk, IfErr, OnOk};
 ghost use Rattle.ctr_disk.specs.declared.fault.StoreFault.TheVariants.{Fault};
-ghost use Rattle.ctr_base.specs.Base.{WhereSound};
+ghost use Rattle.ctr_pvs.specs.base_Base.{WhereSound};
 ghost use Rattle.ctr_meta.specs.Tables.{is_in};
-ghost use Rattle.ctr_record_effects.specs.Standing.{IsDatabaseState};
-ghost use Rattle.ctr_walk.specs.Damage.{ReadsPages};
-ghost use Rattle.ctr_walk.specs.OneRecord.{HasRoomForOne};
-ghost use Rattle.ctr_page_turns.specs.Rooms.{AddsItems};
-ghost use Rattle.ctr_page_turns.specs.Turns.{Turns};
+ghost use Rattle.ctr_pvs.specs.record_effects_Standing.{IsDatabaseState};
+ghost use Rattle.ctr_pvs.specs.walk_Damage.{ReadsPages};
+ghost use Rattle.ctr_pvs.specs.walk_OneRecord.{HasRoomForOne};
+ghost use Rattle.ctr_clean.specs.page_turns_Rooms.{AddsItems};
+ghost use Rattle.ctr_clean.specs.page_turns_Turns.{Turns};
 ghost use Rattle.ctr_emptying.specs.Emptying.{next_emptied, FreesEntryAt};
 ghost use Rattle.ctr_emptying.specs.Looking.{FreeingSaid};
 
 use crate::emptied::Emptied;
 use crate::left::{Left, pages_left};
-use ctr_base::Origin;
-use ctr_dead::free_table;
+use ctr_clean::{a_turn_goes_on, free_table, title_at};
 use ctr_disk::{Disk, StoreFault};
 use ctr_meta::Meta;
 use ctr_page::EntryState;
-use ctr_page_turns::a_turn_goes_on;
-use ctr_store::Store;
-use ctr_titles::title_at;
+use ctr_pvs::{Origin, Store};
 use ctr_types::{Fate, Xid};
 
 /// Whether a transaction is open; 0 is nobody's number.

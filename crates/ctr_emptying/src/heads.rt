@@ -2,27 +2,25 @@
 ghost use Rattle.std.specs.Prelude.{◌≡◌, ◌<◌, ℕ, false, IfOk, IfErr, List};
 ghost use Rattle.ctr_types.specs.declared.value.Column.{Column};
 ghost use Rattle.ctr_disk.specs.declared.fault.StoreFault.TheVariants.{Fault};
-ghost use Rattle.ctr_base.specs.Base.{WhereSound};
+ghost use Rattle.ctr_pvs.specs.base_Base.{WhereSound};
 ghost use Rattle.ctr_page.specs.declared.checks.Chain.{Chain as ChainOf};
 ghost use Rattle.ctr_area.specs.Chains.{slot_places};
 ghost use Rattle.ctr_area.specs.Images.{is_committed_in};
 ghost use Rattle.ctr_area.specs.Reading.{slot_said};
 ghost use Rattle.ctr_area.specs.Sound.{IsAmong};
-ghost use Rattle.ctr_record_effects.specs.States.{area_in};
-ghost use Rattle.ctr_record_effects.specs.Standing.{IsDatabaseState};
-ghost use Rattle.ctr_walk.specs.Damage.{ReadsPages};
+ghost use Rattle.ctr_pvs.specs.record_effects_States.{area_in};
+ghost use Rattle.ctr_pvs.specs.record_effects_Standing.{IsDatabaseState};
+ghost use Rattle.ctr_pvs.specs.walk_Damage.{ReadsPages};
 ghost use Rattle.ctr_pvs.specs.Slots.{slot_lent};
-ghost use Rattle.ctr_reading.specs.Gathering.{IsBucketPage};
+ghost use Rattle.ctr_cursor.specs.reading_Gathering.{IsBucketPage};
 ghost use Rattle.ctr_emptying.specs.Looking.{HeadSaid, is_settled, SettledSaid};
 
-use ctr_base::Origin;
+use ctr_cursor::slots_on;
 use ctr_disk::{Disk, StoreFault};
 use ctr_meta::Meta;
 use ctr_page::Place;
-use ctr_pvs::{LentSlot, row};
-use ctr_reading::slots_on;
+use ctr_pvs::{LentSlot, Origin, Store, row};
 use ctr_rec::PageNo;
-use ctr_store::Store;
 use ctr_types::{Fate, Xid};
 
 /// Whether a transaction is committed; 0 is nobody's number.

@@ -1,19 +1,18 @@
 // What pages a table has left.
 ghost use Rattle.std.specs.Prelude.{◌≡◌, ◌≢◌, ◌<◌, false, IfOk, IfErr};
 ghost use Rattle.ctr_disk.specs.declared.fault.StoreFault.TheVariants.{Fault};
-ghost use Rattle.ctr_base.specs.Base.{WhereSound};
-ghost use Rattle.ctr_record_effects.specs.States.{area_in};
-ghost use Rattle.ctr_record_effects.specs.Standing.{IsDatabaseState};
-ghost use Rattle.ctr_walk.specs.Damage.{ReadsPages};
+ghost use Rattle.ctr_pvs.specs.base_Base.{WhereSound};
+ghost use Rattle.ctr_pvs.specs.record_effects_States.{area_in};
+ghost use Rattle.ctr_pvs.specs.record_effects_Standing.{IsDatabaseState};
+ghost use Rattle.ctr_pvs.specs.walk_Damage.{ReadsPages};
 ghost use Rattle.ctr_emptying.specs.Looking.{RowsSaid, LeftSaid, IsLeftBelow};
 
-use ctr_base::Origin;
+use ctr_clean::a_table_can_be_linked_to;
+use ctr_cursor::first_page;
 use ctr_disk::{Disk, StoreFault};
 use ctr_page::Chain;
+use ctr_pvs::{Origin, Store};
 use ctr_rec::PageNo;
-use ctr_store::Store;
-use ctr_undamaged::a_table_can_be_linked_to;
-use ctr_walk::first_page;
 
 /// The buckets of a table.
 const BUCKETS: u8 = 8;

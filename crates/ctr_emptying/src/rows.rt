@@ -1,27 +1,24 @@
 // The first page of a bucket of a table that is dead.
 ghost use Rattle.std.specs.Prelude.{◌≡◌, ◌≢◌, ◌<◌, false, IfOk, IfErr, IfSome, OnOk};
 ghost use Rattle.ctr_disk.specs.declared.fault.StoreFault.TheVariants.{Fault};
-ghost use Rattle.ctr_base.specs.Base.{WhereSound};
-ghost use Rattle.ctr_record_effects.specs.States.{area_in};
-ghost use Rattle.ctr_record_effects.specs.Standing.{IsDatabaseState};
-ghost use Rattle.ctr_walk.specs.OneRecord.{HasRoomForOne};
-ghost use Rattle.ctr_walk.specs.Damage.{ReadsPages};
-ghost use Rattle.ctr_page_turns.specs.Rooms.{AddsItems};
-ghost use Rattle.ctr_page_turns.specs.Turns.{Turns};
+ghost use Rattle.ctr_pvs.specs.base_Base.{WhereSound};
+ghost use Rattle.ctr_pvs.specs.record_effects_States.{area_in};
+ghost use Rattle.ctr_pvs.specs.record_effects_Standing.{IsDatabaseState};
+ghost use Rattle.ctr_pvs.specs.walk_OneRecord.{HasRoomForOne};
+ghost use Rattle.ctr_pvs.specs.walk_Damage.{ReadsPages};
+ghost use Rattle.ctr_clean.specs.page_turns_Rooms.{AddsItems};
+ghost use Rattle.ctr_clean.specs.page_turns_Turns.{Turns};
 ghost use Rattle.ctr_emptying.specs.Emptying.{next_emptied, UnlinksRowsAt};
 ghost use Rattle.ctr_emptying.specs.Looking.{FrontSaid};
 
 use crate::emptied::Emptied;
 use crate::heads::is_settled_page;
-use ctr_base::Origin;
-use ctr_dead::unlink;
+use ctr_clean::{a_table_can_be_linked_to, a_turn_goes_on, unlink};
+use ctr_cursor::first_page;
 use ctr_disk::{Disk, StoreFault};
 use ctr_page::Chain;
-use ctr_page_turns::a_turn_goes_on;
+use ctr_pvs::{Origin, Store};
 use ctr_rec::PageNo;
-use ctr_store::Store;
-use ctr_undamaged::a_table_can_be_linked_to;
-use ctr_walk::first_page;
 
 /// The first page of a bucket, where all heads on it are committed.
 fn settled_front<D: Disk, O: Origin>(

@@ -1,21 +1,19 @@
 // The first page of versions of a table that is dead.
 ghost use Rattle.std.specs.Prelude.{◌≡◌, ◌<◌, IfOk, IfErr, OnOk};
 ghost use Rattle.ctr_disk.specs.declared.fault.StoreFault.TheVariants.{Fault};
-ghost use Rattle.ctr_base.specs.Base.{WhereSound};
-ghost use Rattle.ctr_record_effects.specs.Standing.{IsDatabaseState};
-ghost use Rattle.ctr_walk.specs.OneRecord.{HasRoomForOne};
-ghost use Rattle.ctr_page_turns.specs.Rooms.{AddsItems};
-ghost use Rattle.ctr_page_turns.specs.Turns.{Turns};
+ghost use Rattle.ctr_pvs.specs.base_Base.{WhereSound};
+ghost use Rattle.ctr_pvs.specs.record_effects_Standing.{IsDatabaseState};
+ghost use Rattle.ctr_pvs.specs.walk_OneRecord.{HasRoomForOne};
+ghost use Rattle.ctr_clean.specs.page_turns_Rooms.{AddsItems};
+ghost use Rattle.ctr_clean.specs.page_turns_Turns.{Turns};
 ghost use Rattle.ctr_emptying.specs.Emptying.{next_emptied, UnlinksVersionsAt};
 
 use crate::emptied::Emptied;
 use crate::left::{Left, pages_left};
-use ctr_base::Origin;
-use ctr_dead::unlink;
+use ctr_clean::{a_turn_goes_on, unlink};
 use ctr_disk::{Disk, StoreFault};
 use ctr_page::Chain;
-use ctr_page_turns::a_turn_goes_on;
-use ctr_store::Store;
+use ctr_pvs::{Origin, Store};
 
 /// Takes the first page of versions of a table from its chain, where no bucket has a page, by one record, which isn't hardened yet. It takes
 /// no memory.

@@ -4,16 +4,16 @@ use Rattle.std.specs.Prelude.{◌==◌}
 use Rattle.ctr_types.specs.declared.value.Column.{Column}
 use Rattle.ctr_page.specs.declared.rows.VersionEntry.{VersionEntry}
 use Rattle.ctr_page.specs.Making.{IsEntry}
-use Rattle.ctr_area.specs.Areas.{Older, nowhere, free_older}
-use Rattle.ctr_area.specs.Reading.{version_said, older_said}
+use Rattle.ctr_passed.specs.area_Areas.{Older, nowhere, free_older}
+use Rattle.ctr_passed.specs.area_Reading.{version_said, older_said}
 use Rattle.ctr_passed.specs.Logged.{IsOlderOf}
 use Rattle.ctr_page.specs.declared.rows.Place.{Place}
-use Rattle.ctr_redo.specs.States.{State}
-use Rattle.ctr_area.specs.Chains.{older_bound, older_places}
-use Rattle.ctr_area.specs.Sound.{IsAmong, along}
+use Rattle.ctr_passed.specs.redo_States.{State}
+use Rattle.ctr_passed.specs.area_Chains.{older_bound, older_places}
+use Rattle.ctr_passed.specs.area_Sound.{IsAmong, along}
 use Rattle.ctr_record_effects.specs.States.{area_in}
 use Rattle.ctr_record_effects.specs.Standing.{IsDatabaseState}
-use Rattle.ctr_record_laws.specs.Owed.{OwedByCut}
+use Rattle.ctr_passed.specs.record_laws_Owed.{OwedByCut}
 use Rattle.ctr_passed.proofs.Kept.{along_older, first_in}
 use Rattle.ctr_trim.specs.Cutting.{entry_left}
 

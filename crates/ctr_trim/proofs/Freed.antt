@@ -8,11 +8,11 @@ use Rattle.ctr_disk.specs.Image.{Image}
 use Rattle.ctr_disk.specs.declared.fault.StoreFault.{StoreFault}
 use Rattle.ctr_page.specs.declared.rows.Place.{Place}
 use Rattle.ctr_page.specs.Columns.{kinds_of, kinds_width}
-use Rattle.ctr_area.specs.Reading.{width_on}
-use Rattle.ctr_base.specs.Base.{IsSoundImage}
-use Rattle.ctr_store.specs.Store.{View, LeavesPage}
-use Rattle.ctr_walk.proofs.Damages.{reads_behind}
-use Rattle.ctr_walk.proofs.Records.{one_behind}
+use Rattle.ctr_passed.specs.area_Reading.{width_on}
+use Rattle.ctr_pvs.specs.base_Base.{IsSoundImage}
+use Rattle.ctr_pvs.specs.store_Store.{View, LeavesPage}
+use Rattle.ctr_pvs.proofs.walk_Damages.{reads_behind}
+use Rattle.ctr_pvs.proofs.walk_Records.{one_behind}
 use Rattle.ctr_record_effects.specs.States.{pages_in}
 use Rattle.ctr_passed.specs.Logged.{IsOlderOf}
 use Rattle.ctr_pvs.specs.Writing.{blank_entry, blank_record, DropsEntry}

@@ -9,9 +9,9 @@ use Rattle.ctr_types.specs.declared.value.Column.{Column}
 use Rattle.ctr_page.specs.declared.rows.RowSlot.{RowSlot}
 use Rattle.ctr_page.specs.Places.{slot_size}
 use Rattle.ctr_page.specs.Making.{IsSlot}
-use Rattle.ctr_area.specs.Areas.{Slot, nowhere, free_slot}
-use Rattle.ctr_area.specs.Reading.{version_said, slot_said}
-use Rattle.ctr_record_laws.specs.Owed.{trimmed_slot}
+use Rattle.ctr_passed.specs.area_Areas.{Slot, nowhere, free_slot}
+use Rattle.ctr_passed.specs.area_Reading.{version_said, slot_said}
+use Rattle.ctr_passed.specs.record_laws_Owed.{trimmed_slot}
 use Rattle.ctr_passed.specs.Logged.{IsSlotOf}
 use Rattle.ctr_trim.specs.declared.slots.TrimWay.{TrimWay}
 use Rattle.ctr_trim.specs.declared.slots.TrimWay.TheVariants.{BehindHead, BehindPrevious, WholeSlot}

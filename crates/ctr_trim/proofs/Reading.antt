@@ -5,9 +5,9 @@ use Rattle.ctr_disk.specs.declared.disk.Disk.{Ghosts}
 use Rattle.ctr_disk.specs.Image.{Image}
 use Rattle.ctr_disk.specs.declared.fault.StoreFault.{StoreFault}
 use Rattle.ctr_disk.specs.declared.fault.StoreFault.TheVariants.{Fault, Damaged}
-use Rattle.ctr_store.specs.Store.{View}
-use Rattle.ctr_walk.specs.Damage.{EndsTold, ReadsPages}
-use Rattle.ctr_walk.proofs.Damages.{reads_err}
+use Rattle.ctr_pvs.specs.store_Store.{View}
+use Rattle.ctr_pvs.specs.walk_Damage.{EndsTold, ReadsPages}
+use Rattle.ctr_pvs.proofs.walk_Damages.{reads_err}
 
 -- what was read for an answer that is a fault is read for it as another call answers it
 pub reads_fault : {D : Type 0} (first : Image) (g : Ghosts D) (a b : View D) (S T : Type 0) (e : StoreFault) (result : Result S StoreFault)

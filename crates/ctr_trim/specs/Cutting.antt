@@ -11,13 +11,13 @@ use Rattle.ctr_page.specs.declared.rows.Place.{Place}
 use Rattle.ctr_page.specs.declared.rows.VersionEntry.{VersionEntry}
 use Rattle.ctr_page.specs.Places.{kept_size}
 use Rattle.ctr_page.specs.Making.{kept_bytes, IsEntry}
-use Rattle.ctr_area.specs.Areas.{nowhere}
-use Rattle.ctr_area.specs.Reading.{older_said, columns_on}
-use Rattle.ctr_redo.specs.States.{State}
-use Rattle.ctr_base.specs.Base.{IsSoundImage}
-use Rattle.ctr_store.specs.Store.{View}
-use Rattle.ctr_walk.specs.OneRecord.{WhyNotLogged, LogsOne}
-use Rattle.ctr_walk.specs.Damage.{EndsTold, ReadsPages}
+use Rattle.ctr_passed.specs.area_Areas.{nowhere}
+use Rattle.ctr_passed.specs.area_Reading.{older_said, columns_on}
+use Rattle.ctr_passed.specs.redo_States.{State}
+use Rattle.ctr_pvs.specs.base_Base.{IsSoundImage}
+use Rattle.ctr_pvs.specs.store_Store.{View}
+use Rattle.ctr_pvs.specs.walk_OneRecord.{WhyNotLogged, LogsOne}
+use Rattle.ctr_pvs.specs.walk_Damage.{EndsTold, ReadsPages}
 use Rattle.ctr_record_effects.specs.States.{pages_in, area_in}
 use Rattle.ctr_record_effects.specs.Changing.{laid_on_place}
 use Rattle.ctr_passed.specs.Logged.{IsOlderOf}

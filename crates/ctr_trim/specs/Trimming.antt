@@ -10,16 +10,16 @@ use Rattle.ctr_page.specs.declared.rows.Place.{Place}
 use Rattle.ctr_page.specs.declared.rows.RowSlot.{RowSlot}
 use Rattle.ctr_page.specs.Places.{slot_size}
 use Rattle.ctr_page.specs.Making.{slot_bytes, IsSlot}
-use Rattle.ctr_area.specs.Areas.{nowhere}
-use Rattle.ctr_area.specs.Reading.{slot_said, columns_on}
-use Rattle.ctr_redo.specs.States.{State}
-use Rattle.ctr_base.specs.Base.{IsSoundImage}
-use Rattle.ctr_store.specs.Store.{View}
-use Rattle.ctr_walk.specs.OneRecord.{WhyNotLogged, LogsOne}
-use Rattle.ctr_walk.specs.Damage.{EndsTold, ReadsPages}
+use Rattle.ctr_passed.specs.area_Areas.{nowhere}
+use Rattle.ctr_passed.specs.area_Reading.{slot_said, columns_on}
+use Rattle.ctr_passed.specs.redo_States.{State}
+use Rattle.ctr_pvs.specs.base_Base.{IsSoundImage}
+use Rattle.ctr_pvs.specs.store_Store.{View}
+use Rattle.ctr_pvs.specs.walk_OneRecord.{WhyNotLogged, LogsOne}
+use Rattle.ctr_pvs.specs.walk_Damage.{EndsTold, ReadsPages}
 use Rattle.ctr_record_effects.specs.States.{pages_in, area_in}
 use Rattle.ctr_record_effects.specs.Changing.{laid_on_place}
-use Rattle.ctr_record_laws.specs.Owed.{Trimming, CutHead, CutPrevious, FreeTombstone}
+use Rattle.ctr_passed.specs.record_laws_Owed.{Trimming, CutHead, CutPrevious, FreeTombstone}
 use Rattle.ctr_passed.specs.Logged.{IsSlotOf}
 use Rattle.ctr_undamaged.specs.heap_Writing.{slot_width}
 use Rattle.ctr_pvs.specs.Reading.{row_check_at}

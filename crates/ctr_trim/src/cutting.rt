@@ -1,20 +1,20 @@
 // One record cuts a chain behind a version entry.
 ghost use Rattle.std.specs.Prelude.{◌≡◌, ◌≤◌, ◌<◌, ◌+◌, ℕ, Bool, false, IsTrue, OnOk, IfOk, IfErr, take};
 ghost use Rattle.ctr_disk.specs.declared.fault.StoreFault.TheVariants.{Fault};
-ghost use Rattle.ctr_base.specs.Base.{WhereSound, IsSoundImage};
+ghost use Rattle.ctr_pvs.specs.base_Base.{WhereSound, IsSoundImage};
 ghost use Rattle.ctr_rec.specs.declared.record.Record.TheVariants.{Trim};
 ghost use Rattle.ctr_page.specs.declared.rows.Place.{Place as PlaceOf};
 ghost use Rattle.ctr_page.specs.Places.{kept_size as size_of_kept};
-ghost use Rattle.ctr_area.specs.Chains.{older_places};
-ghost use Rattle.ctr_area.specs.Sound.{IsAmong};
+ghost use Rattle.ctr_passed.specs.area_Chains.{older_places};
+ghost use Rattle.ctr_passed.specs.area_Sound.{IsAmong};
 ghost use Rattle.ctr_record_effects.specs.States.{pages_in, area_in, IsWholePage};
 ghost use Rattle.ctr_record_effects.specs.Changing.{laid_on_place};
 ghost use Rattle.ctr_record_effects.specs.Standing.{IsDatabaseState};
-ghost use Rattle.ctr_record_laws.specs.Owed.{OwedByCut};
-ghost use Rattle.ctr_actions.specs.Sites.{site_of};
-ghost use Rattle.ctr_actions.specs.Actions.{Cuts, site_after};
-ghost use Rattle.ctr_walk.specs.OneRecord.{HasRoomForOne, LogsOne};
-ghost use Rattle.ctr_walk.specs.Damage.{damage_told, EndsTold, ReadsPages};
+ghost use Rattle.ctr_passed.specs.record_laws_Owed.{OwedByCut};
+ghost use Rattle.ctr_passed.specs.actions_Sites.{site_of};
+ghost use Rattle.ctr_passed.specs.actions_Actions.{Cuts, site_after};
+ghost use Rattle.ctr_pvs.specs.walk_OneRecord.{HasRoomForOne, LogsOne};
+ghost use Rattle.ctr_pvs.specs.walk_Damage.{damage_told, EndsTold, ReadsPages};
 ghost use Rattle.ctr_pvs.specs.Reading.{version_check_at};
 ghost use Rattle.ctr_pvs.specs.Lending.{VersionLiesAt};
 ghost use Rattle.ctr_page_turns.specs.Acts.{ActsBy};
@@ -22,20 +22,16 @@ ghost use Rattle.ctr_trim.specs.Trimming.{EndsCheck};
 ghost use Rattle.ctr_trim.specs.Cutting.{LaysCut, CutsEntry, EndsCutting};
 
 use crate::entries::{EntryLaid, cut_bytes};
-use ctr_actions::a_logged_record_is_its_action;
-use ctr_base::Origin;
 use ctr_disk::{Disk, StoreFault};
 use ctr_page::{Place, kept_size};
 use ctr_page_turns::{a_record_acts, a_record_is_refused_by_the_disk_alone};
-use ctr_passed::owed_versions_are_laid_as_their_actions;
-use ctr_pvs::version;
+use ctr_passed::{a_logged_record_is_its_action, owed_versions_are_laid_as_their_actions};
+use ctr_pvs::{Origin, Store, log_on_page, version};
 use ctr_rec::Record;
 use ctr_record_effects::{a_version_is_laid, over_place};
-use ctr_store::Store;
 use ctr_undamaged::{
     a_place_of_a_table_fits, a_version_entry_is_read_without_damage, a_version_is_put_at_its_place,
 };
-use ctr_walk::log_on_page;
 
 /// What is left of the version entry at a place, in bytes of its own, since its page may go while a record is logged.
 fn read_cut<D: Disk, O: Origin>(

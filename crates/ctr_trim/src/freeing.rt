@@ -1,26 +1,24 @@
 // One record frees a version entry that no chain has.
 ghost use Rattle.std.specs.Prelude.{◌≡◌, ◌<◌, ℕ, false, OnOk, IfErr};
 ghost use Rattle.ctr_disk.specs.declared.fault.StoreFault.TheVariants.{Fault};
-ghost use Rattle.ctr_redo.specs.States.{page_limit};
-ghost use Rattle.ctr_base.specs.Base.{WhereSound};
-ghost use Rattle.ctr_store.specs.Store.{LeavesPage};
+ghost use Rattle.ctr_passed.specs.redo_States.{page_limit};
+ghost use Rattle.ctr_pvs.specs.base_Base.{WhereSound};
+ghost use Rattle.ctr_pvs.specs.store_Store.{LeavesPage};
 ghost use Rattle.ctr_record_effects.specs.States.{area_in, IsWholePage};
 ghost use Rattle.ctr_record_effects.specs.Standing.{IsDatabaseState};
-ghost use Rattle.ctr_record_laws.specs.Loose.{IsLoose};
-ghost use Rattle.ctr_actions.specs.Sites.{site_of};
-ghost use Rattle.ctr_actions.specs.Actions.{FreesOlder, site_after};
-ghost use Rattle.ctr_walk.specs.OneRecord.{HasRoomForOne};
+ghost use Rattle.ctr_passed.specs.record_laws_Loose.{IsLoose};
+ghost use Rattle.ctr_passed.specs.actions_Sites.{site_of};
+ghost use Rattle.ctr_passed.specs.actions_Actions.{FreesOlder, site_after};
+ghost use Rattle.ctr_pvs.specs.walk_OneRecord.{HasRoomForOne};
 ghost use Rattle.ctr_pvs.specs.Writing.{DropsEntry};
 ghost use Rattle.ctr_page_turns.specs.Acts.{ActsBy};
 
-use ctr_base::Origin;
 use ctr_disk::{Disk, StoreFault};
 use ctr_page::Place;
 use ctr_page_turns::{a_record_acts, a_record_is_refused_by_the_disk_alone};
 use ctr_passed::owed_versions_are_laid_as_their_actions;
-use ctr_pvs::free_entry;
+use ctr_pvs::{Origin, Store, free_entry};
 use ctr_rec::PageNo;
-use ctr_store::Store;
 use ctr_undamaged::{a_place_of_a_table_fits, a_version_entry_is_read_without_damage};
 
 /// Brings a page into a frame: it is there, whole.

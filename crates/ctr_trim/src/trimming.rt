@@ -1,39 +1,35 @@
 // One record trims a slot.
 ghost use Rattle.std.specs.Prelude.{◌≡◌, ◌≤◌, ◌<◌, ◌+◌, ℕ, Bool, false, IsTrue, OnOk, IfOk, IfErr, take};
 ghost use Rattle.ctr_disk.specs.declared.fault.StoreFault.TheVariants.{Fault};
-ghost use Rattle.ctr_base.specs.Base.{WhereSound, IsSoundImage};
+ghost use Rattle.ctr_pvs.specs.base_Base.{WhereSound, IsSoundImage};
 ghost use Rattle.ctr_rec.specs.declared.record.Record.TheVariants.{Trim};
 ghost use Rattle.ctr_page.specs.Places.{slot_size as size_of_slot};
-ghost use Rattle.ctr_area.specs.Chains.{slot_places};
-ghost use Rattle.ctr_area.specs.Sound.{IsAmong};
+ghost use Rattle.ctr_passed.specs.area_Chains.{slot_places};
+ghost use Rattle.ctr_passed.specs.area_Sound.{IsAmong};
 ghost use Rattle.ctr_record_effects.specs.States.{pages_in, area_in, IsWholePage};
 ghost use Rattle.ctr_record_effects.specs.Changing.{laid_on_place};
 ghost use Rattle.ctr_record_effects.specs.Standing.{IsDatabaseState};
-ghost use Rattle.ctr_record_laws.specs.Owed.{OwedByTrim};
-ghost use Rattle.ctr_actions.specs.Sites.{site_of};
-ghost use Rattle.ctr_actions.specs.Actions.{Trims, site_after};
-ghost use Rattle.ctr_walk.specs.OneRecord.{HasRoomForOne, LogsOne};
-ghost use Rattle.ctr_walk.specs.Damage.{damage_told, EndsTold, ReadsPages};
+ghost use Rattle.ctr_passed.specs.record_laws_Owed.{OwedByTrim};
+ghost use Rattle.ctr_passed.specs.actions_Sites.{site_of};
+ghost use Rattle.ctr_passed.specs.actions_Actions.{Trims, site_after};
+ghost use Rattle.ctr_pvs.specs.walk_OneRecord.{HasRoomForOne, LogsOne};
+ghost use Rattle.ctr_pvs.specs.walk_Damage.{damage_told, EndsTold, ReadsPages};
 ghost use Rattle.ctr_pvs.specs.Reading.{row_check_at};
 ghost use Rattle.ctr_pvs.specs.Slots.{SlotLiesAt};
 ghost use Rattle.ctr_page_turns.specs.Acts.{ActsBy};
 ghost use Rattle.ctr_trim.specs.Trimming.{trimming_by, LaysLeft, EndsCheck, TrimsSlot, EndsTrimming};
 
 use crate::slots::{SlotLaid, TrimWay, trimmed};
-use ctr_actions::a_logged_record_is_its_action;
-use ctr_base::Origin;
 use ctr_disk::{Disk, StoreFault};
 use ctr_page::{Place, slot_size};
 use ctr_page_turns::{a_record_acts, a_record_is_refused_by_the_disk_alone};
-use ctr_passed::owed_slots_are_laid_as_their_actions;
-use ctr_pvs::row;
+use ctr_passed::{a_logged_record_is_its_action, owed_slots_are_laid_as_their_actions};
+use ctr_pvs::{Origin, Store, log_on_page, row};
 use ctr_rec::Record;
 use ctr_record_effects::{a_slot_is_laid, over_place};
-use ctr_store::Store;
 use ctr_undamaged::{
     a_head_is_taken_without_damage, a_place_of_a_table_fits, a_slot_is_put_at_its_place,
 };
-use ctr_walk::log_on_page;
 
 /// What is left of the slot at a place, in bytes of its own, since its page may go while a record is logged.
 fn read_left<D: Disk, O: Origin>(

@@ -1,5 +1,5 @@
 use Rattle.std.proofs.Common.{Bool}
-use Rattle.ctr_trim.proofs.Reading.{reads_fault}
+use Rattle.ctr_dead.proofs.trim_Reading.{reads_fault}
 use Rattle.ctr_clean.specs.declared.choosing.SlotFacts.{SlotFacts}
 use Rattle.ctr_clean.proofs.cutting.behind_slot.Goals as goal
 

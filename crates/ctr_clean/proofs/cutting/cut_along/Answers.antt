@@ -1,8 +1,8 @@
 use Rattle.std.proofs.Common.{◌≡◌, ℕ, suc, ◌-◌, Bool, true, false, Option, Some, None, Ok, sym, ◌∙◌, ap, subst, arith}
 use Rattle.std.specs.Prelude.{IsTrue, ⊤}
-use Rattle.ctr_base.specs.Base.{IsSoundImage}
+use Rattle.ctr_pvs.specs.base_Base.{IsSoundImage}
 use Rattle.ctr_disk.specs.declared.fault.StoreFault.TheVariants.{Fault}
-use Rattle.ctr_redo.specs.States.{State}
+use Rattle.ctr_pvs.specs.redo_States.{State}
 use Rattle.ctr_meta.specs.Kept.{TablesKept}
 use Rattle.ctr_meta.specs.Tables.{Tables}
 use Rattle.ctr_page.specs.declared.rows.Place.{Place}
@@ -10,9 +10,9 @@ use Rattle.ctr_area.specs.Chains.{older_places}
 use Rattle.ctr_area.specs.Sound.{IsAmong}
 use Rattle.ctr_record_effects.specs.States.{area_in}
 use Rattle.ctr_record_effects.specs.Standing.{IsDatabaseState}
-use Rattle.ctr_store.specs.Store.{LeavesPage}
-use Rattle.ctr_walk.proofs.Damages.{reads_err, reads_behind}
-use Rattle.ctr_walk.proofs.Joins.{pages_join, answers_ok}
+use Rattle.ctr_pvs.specs.store_Store.{LeavesPage}
+use Rattle.ctr_pvs.proofs.walk_Damages.{reads_err, reads_behind}
+use Rattle.ctr_pvs.proofs.walk_Joins.{pages_join, answers_ok}
 use Rattle.ctr_clean.specs.declared.older.OlderFacts.{OlderFacts}
 use Rattle.ctr_clean.specs.Choosing.{passes_below}
 use Rattle.ctr_clean.specs.Older.{IsSaid}

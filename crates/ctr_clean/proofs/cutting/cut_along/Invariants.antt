@@ -1,7 +1,7 @@
 use Rattle.std.proofs.Common.{Ok}
 use Rattle.std.specs.Prelude.{IsTrue, ⊤}
-use Rattle.ctr_base.specs.Base.{IsSoundImage}
-use Rattle.ctr_store.specs.Store.{LeavesPage}
+use Rattle.ctr_pvs.specs.base_Base.{IsSoundImage}
+use Rattle.ctr_pvs.specs.store_Store.{LeavesPage}
 use Rattle.ctr_record_effects.specs.States.{area_in}
 use Rattle.ctr_clean.specs.Choosing.{passes_below}
 use Rattle.ctr_clean.proofs.Passed.{IsOnWayTo}

@@ -4,18 +4,18 @@ use Rattle.ctr_disk.specs.declared.disk.Disk.{Ghosts}
 use Rattle.ctr_disk.specs.Image.{Image}
 use Rattle.ctr_disk.specs.declared.fault.StoreFault.{StoreFault}
 use Rattle.ctr_disk.specs.declared.fault.StoreFault.TheVariants.{Fault}
-use Rattle.ctr_redo.specs.States.{State}
+use Rattle.ctr_pvs.specs.redo_States.{State}
 use Rattle.ctr_page.specs.declared.rows.Place.{Place}
 use Rattle.ctr_record_laws.specs.Owed.{OwedByCut}
 use Rattle.ctr_record_effects.specs.States.{area_in}
 use Rattle.ctr_record_effects.specs.Standing.{IsDatabaseState}
 use Rattle.ctr_actions.specs.Actions.{Cuts}
-use Rattle.ctr_store.specs.Store.{View}
-use Rattle.ctr_walk.proofs.Joins.{answers_ok}
-use Rattle.ctr_page_turns.specs.Turns.{Turns, Reads, LogsARecord}
-use Rattle.ctr_page_turns.specs.Acts.{ActsBy}
-use Rattle.ctr_trim.specs.Cutting.{cut_record, CutsEntry}
-use Rattle.ctr_trim.proofs.Reading.{reads_fault}
+use Rattle.ctr_pvs.specs.store_Store.{View}
+use Rattle.ctr_pvs.proofs.walk_Joins.{answers_ok}
+use Rattle.ctr_dead.specs.page_turns_Turns.{Turns, Reads, LogsARecord}
+use Rattle.ctr_dead.specs.page_turns_Acts.{ActsBy}
+use Rattle.ctr_dead.specs.trim_Cutting.{cut_record, CutsEntry}
+use Rattle.ctr_dead.proofs.trim_Reading.{reads_fault}
 use Rattle.ctr_clean.specs.declared.steps.Step.{Step}
 use Rattle.ctr_clean.specs.declared.steps.Step.TheVariants.{Cleaned, Nothing}
 use Rattle.ctr_clean.specs.Choosing.{passes_below}

@@ -3,10 +3,10 @@ use Rattle.ctr_page.specs.declared.rows.Place.{Place}
 use Rattle.ctr_disk.specs.declared.fault.StoreFault.{StoreFault}
 use Rattle.ctr_area.specs.Reading.{columns_on}
 use Rattle.ctr_record_effects.specs.States.{pages_in, area_in}
-use Rattle.ctr_walk.specs.Damage.{damage_told, EndsTold}
+use Rattle.ctr_pvs.specs.walk_Damage.{damage_told, EndsTold}
 use Rattle.ctr_pvs.specs.declared.slot.LentSlot.{LentSlot}
 use Rattle.ctr_pvs.specs.Slots.{slot_lent, SlotSaidAt}
-use Rattle.ctr_trim.proofs.Reading.{reads_fault, by_disk}
+use Rattle.ctr_dead.proofs.trim_Reading.{reads_fault, by_disk}
 use Rattle.ctr_clean.specs.Heads.{LeadsFrom}
 use Rattle.ctr_clean.proofs.Looking.{slot_undamaged}
 use Rattle.ctr_clean.proofs.Headless.{leads_from}

@@ -2,13 +2,13 @@ use Rattle.std.proofs.Common.{◌≡◌, ◌<◌, Result, Ok, Err, sym, subst}
 use Rattle.std.specs.Prelude.{⊤, OnOk}
 use Rattle.ctr_disk.specs.declared.fault.StoreFault.{StoreFault}
 use Rattle.ctr_page.specs.declared.rows.Place.{Place}
-use Rattle.ctr_redo.specs.States.{State, page_limit}
+use Rattle.ctr_pvs.specs.redo_States.{State, page_limit}
 use Rattle.ctr_area.specs.Reading.{columns_on}
 use Rattle.ctr_record_effects.specs.States.{pages_in, area_in}
-use Rattle.ctr_walk.proofs.Damages.{reads}
-use Rattle.ctr_walk.proofs.Joins.{pages_join}
-use Rattle.ctr_walk.proofs.Limits.{below_limit}
-use Rattle.ctr_trim.proofs.Reading.{reads_fault}
+use Rattle.ctr_pvs.proofs.walk_Damages.{reads}
+use Rattle.ctr_pvs.proofs.walk_Joins.{pages_join}
+use Rattle.ctr_pvs.proofs.walk_Limits.{below_limit}
+use Rattle.ctr_dead.proofs.trim_Reading.{reads_fault}
 use Rattle.ctr_clean.specs.Heads.{IsPageOfBytes, LeadsFrom, IsReadBehind}
 use Rattle.ctr_clean.proofs.heads.look_behind.Goals as goal
 

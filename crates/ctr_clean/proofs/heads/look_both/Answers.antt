@@ -1,4 +1,4 @@
-use Rattle.ctr_walk.proofs.Joins.{pages_join}
+use Rattle.ctr_pvs.proofs.walk_Joins.{pages_join}
 use Rattle.ctr_clean.proofs.heads.look_both.Goals as goal
 
 pub returns-in-Ok-clause-leaves : goal.returns-in-Ok-clause-leaves

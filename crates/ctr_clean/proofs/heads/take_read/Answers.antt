@@ -3,9 +3,9 @@ use Rattle.std.specs.Prelude.{IsTrue, OnOk, IfErr, ⊤, ◌==◌}
 use Rattle.std.proofs.lemmas.Bool.{eqb-true}
 use Rattle.ctr_disk.specs.declared.fault.StoreFault.{StoreFault}
 use Rattle.ctr_disk.specs.declared.fault.StoreFault.TheVariants.{Fault}
-use Rattle.ctr_base.specs.Base.{IsSoundImage}
+use Rattle.ctr_pvs.specs.base_Base.{IsSoundImage}
 use Rattle.ctr_rec.specs.declared.record.Record.TheVariants.{Revert}
-use Rattle.ctr_redo.specs.States.{State}
+use Rattle.ctr_pvs.specs.redo_States.{State}
 use Rattle.ctr_page.specs.declared.rows.Place.{Place}
 use Rattle.ctr_page.specs.declared.rows.RowSlot.{RowSlot}
 use Rattle.ctr_page.specs.Places.{slot_size}
@@ -22,14 +22,14 @@ use Rattle.ctr_record_effects.specs.Changing.{laid_on_place}
 use Rattle.ctr_record_effects.specs.Standing.{IsDatabaseState}
 use Rattle.ctr_actions.specs.Sites.{site_of}
 use Rattle.ctr_actions.specs.Actions.{Reverts, site_after}
-use Rattle.ctr_walk.specs.OneRecord.{WhyNotLogged}
-use Rattle.ctr_walk.specs.Damage.{damage_told}
-use Rattle.ctr_walk.proofs.Limits.{below_limit}
-use Rattle.ctr_page_turns.specs.passed_Laid.{width_in}
-use Rattle.ctr_page_turns.specs.passed_Logged.{IsSlotOf, IsOlderOf}
-use Rattle.ctr_page_turns.specs.Acts.{ActsBy}
-use Rattle.ctr_undamaged.specs.revert_Reverting.{lost_record, slot_reverted, row_slot_at, revert_check, EndsReverting, RevertsRow}
-use Rattle.ctr_trim.proofs.Reading.{by_disk}
+use Rattle.ctr_pvs.specs.walk_OneRecord.{WhyNotLogged}
+use Rattle.ctr_pvs.specs.walk_Damage.{damage_told}
+use Rattle.ctr_pvs.proofs.walk_Limits.{below_limit}
+use Rattle.ctr_dead.specs.passed_Laid.{width_in}
+use Rattle.ctr_dead.specs.passed_Logged.{IsSlotOf, IsOlderOf}
+use Rattle.ctr_dead.specs.page_turns_Acts.{ActsBy}
+use Rattle.ctr_revert.specs.Reverting.{lost_record, slot_reverted, row_slot_at, revert_check, EndsReverting, RevertsRow}
+use Rattle.ctr_dead.proofs.trim_Reading.{by_disk}
 use Rattle.ctr_clean.specs.Heads.{HaveRoom, IsReadBehind}
 use Rattle.ctr_clean.proofs.Headless.{said_so, is_said_so, slot_there, older_there, headless}
 use Rattle.ctr_clean.proofs.heads.take_read.Given.{Over}

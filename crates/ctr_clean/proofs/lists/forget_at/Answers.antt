@@ -4,7 +4,7 @@ use Rattle.ctr_meta.specs.Kept.{TablesKept}
 use Rattle.ctr_meta.specs.Tables.{Tables}
 use Rattle.ctr_record_laws.specs.Owed.{OwedByForget}
 use Rattle.ctr_actions.specs.Actions.{Forgets}
-use Rattle.ctr_page_turns.specs.Turns.{Reads}
+use Rattle.ctr_dead.specs.page_turns_Turns.{Reads}
 use Rattle.ctr_clean.specs.declared.steps.Step.TheVariants.{Nothing}
 use Rattle.ctr_clean.proofs.Resting.{rests_read}
 use Rattle.ctr_clean.proofs.lists.forget_at.Goals as goal

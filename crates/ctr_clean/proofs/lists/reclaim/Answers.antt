@@ -7,7 +7,7 @@ use Rattle.ctr_meta.specs.Kept.{TablesKept}
 use Rattle.ctr_meta.specs.Tables.{Tables}
 use Rattle.ctr_area.specs.Sound.{IsAmong}
 use Rattle.ctr_actions.specs.Actions.{Reclaims}
-use Rattle.ctr_page_turns.specs.Turns.{Reads, LogsARecord}
+use Rattle.ctr_dead.specs.page_turns_Turns.{Reads, LogsARecord}
 use Rattle.ctr_clean.specs.declared.steps.Step.TheVariants.{Nothing}
 use Rattle.ctr_clean.proofs.Listed.{among_behind}
 use Rattle.ctr_clean.proofs.Resting.{rests_read}

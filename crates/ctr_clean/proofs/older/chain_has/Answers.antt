@@ -1,13 +1,13 @@
 use Rattle.std.proofs.Common.{◌≡◌, ℕ, suc, ◌-◌, Bool, Ok, refl, ◌∙◌, ap, subst, arith}
 use Rattle.std.specs.Prelude.{⊤}
 use Rattle.ctr_disk.specs.declared.fault.StoreFault.TheVariants.{Fault}
-use Rattle.ctr_redo.specs.States.{State}
+use Rattle.ctr_pvs.specs.redo_States.{State}
 use Rattle.ctr_area.specs.Chains.{older_places}
 use Rattle.ctr_area.specs.Sound.{IsAmong}
 use Rattle.ctr_record_effects.specs.States.{area_in}
 use Rattle.ctr_record_effects.specs.Standing.{IsDatabaseState}
-use Rattle.ctr_walk.proofs.Damages.{reads_err, reads_behind}
-use Rattle.ctr_walk.proofs.Joins.{pages_join, answers_ok}
+use Rattle.ctr_pvs.proofs.walk_Damages.{reads_err, reads_behind}
+use Rattle.ctr_pvs.proofs.walk_Joins.{pages_join, answers_ok}
 use Rattle.ctr_clean.specs.declared.older.OlderFacts.{OlderFacts}
 use Rattle.ctr_clean.proofs.Resting.{rests_read}
 use Rattle.ctr_clean.proofs.Along.{IsOnWay, at_start, kept_here, found_here, goes_on, ends_here}

@@ -1,10 +1,10 @@
 use Rattle.std.proofs.Common.{Result, subst}
 use Rattle.ctr_disk.specs.declared.fault.StoreFault.{StoreFault}
 use Rattle.ctr_record_effects.specs.States.{pages_in}
-use Rattle.ctr_walk.specs.Damage.{damage_told, EndsTold}
+use Rattle.ctr_pvs.specs.walk_Damage.{damage_told, EndsTold}
 use Rattle.ctr_pvs.specs.declared.lending.LentVersion.{LentVersion}
 use Rattle.ctr_pvs.specs.Lending.{VersionSaidAt}
-use Rattle.ctr_trim.proofs.Reading.{reads_fault, by_disk}
+use Rattle.ctr_dead.proofs.trim_Reading.{reads_fault, by_disk}
 use Rattle.ctr_clean.specs.declared.older.OlderFacts.{OlderFacts}
 use Rattle.ctr_clean.proofs.older.look_older.Goals as goal
 

@@ -2,14 +2,14 @@ use Rattle.std.proofs.Common.{rules, Bool, true, false, Some, Ok, Err, subst}
 use Rattle.std.specs.Prelude.{not}
 use Rattle.std.specs.Int.{w64}
 use Rattle.std.proofs.lemmas.Int.{to_z-of_z}
-use Rattle.ctr_redo.specs.States.{State}
+use Rattle.ctr_pvs.specs.redo_States.{State}
 use Rattle.ctr_page.specs.declared.rows.Place.{Place}
 use Rattle.ctr_area.specs.Chains.{older_places}
 use Rattle.ctr_area.specs.Sound.{IsAmong}
 use Rattle.ctr_record_effects.specs.States.{area_in}
 use Rattle.ctr_record_effects.specs.Standing.{IsDatabaseState}
-use Rattle.ctr_walk.proofs.Joins.{answers_ok}
-use Rattle.ctr_trim.proofs.Reading.{reads_fault}
+use Rattle.ctr_pvs.proofs.walk_Joins.{answers_ok}
+use Rattle.ctr_dead.proofs.trim_Reading.{reads_fault}
 use Rattle.ctr_clean.specs.declared.older.OlderFacts.{OlderFacts}
 use Rattle.ctr_clean.specs.Steps.{Locks}
 use Rattle.ctr_clean.specs.Older.{IsOpenKey, IsHadBy, LooseAt}

@@ -2,20 +2,20 @@ use Rattle.std.proofs.Common.{◌≡◌, ℤ, Bool, true, false, Option, Some, R
 use Rattle.std.specs.Prelude.{IsTrue, IfOk, IfErr}
 use Rattle.std.specs.Int.{w64}
 use Rattle.std.proofs.lemmas.Int.{to_z-of_z}
-use Rattle.ctr_base.specs.Base.{IsSoundImage}
+use Rattle.ctr_pvs.specs.base_Base.{IsSoundImage}
 use Rattle.ctr_disk.specs.declared.fault.StoreFault.{StoreFault}
 use Rattle.ctr_disk.specs.declared.fault.StoreFault.TheVariants.{Fault}
-use Rattle.ctr_redo.specs.States.{State}
+use Rattle.ctr_pvs.specs.redo_States.{State}
 use Rattle.ctr_page.specs.declared.rows.Place.{Place}
 use Rattle.ctr_page.specs.Places.{bucket_of}
 use Rattle.ctr_area.specs.Chains.{older_bound, places_along, Leads}
 use Rattle.ctr_area.specs.Sound.{IsAmong, IsKeptFor}
 use Rattle.ctr_record_effects.specs.States.{pages_in, area_in}
 use Rattle.ctr_record_effects.specs.Standing.{IsDatabaseState}
-use Rattle.ctr_walk.specs.Damage.{damage_told, EndsTold}
-use Rattle.ctr_heap.specs.Finding.{EndsBucket, FindsKey}
-use Rattle.ctr_heap.specs.declared.slots.SlotSought.TheVariants.{Key}
-use Rattle.ctr_trim.proofs.Reading.{reads_fault, by_disk}
+use Rattle.ctr_pvs.specs.walk_Damage.{damage_told, EndsTold}
+use Rattle.ctr_dead.specs.heap_Finding.{EndsBucket, FindsKey}
+use Rattle.ctr_dead.specs.heap_SlotSought.TheVariants.{Key}
+use Rattle.ctr_dead.proofs.trim_Reading.{reads_fault, by_disk}
 use Rattle.ctr_clean.specs.Older.{HasAlong, IsHadBy}
 use Rattle.ctr_clean.proofs.Resting.{reads_on}
 use Rattle.ctr_area.specs.Reading.{columns_on}

@@ -1,15 +1,15 @@
 use Rattle.std.proofs.Common.{◌≡◌, Ok, Err, refl, subst}
 use Rattle.ctr_disk.specs.declared.fault.StoreFault.TheVariants.{Fault}
-use Rattle.ctr_redo.specs.States.{State}
+use Rattle.ctr_pvs.specs.redo_States.{State}
 use Rattle.ctr_record_laws.specs.Owed.{OwedByRevert, OwedByTrim}
 use Rattle.ctr_record_effects.specs.States.{area_in}
 use Rattle.ctr_record_effects.specs.Standing.{IsDatabaseState}
 use Rattle.ctr_actions.specs.Actions.{Reverts, Trims}
-use Rattle.ctr_walk.proofs.Joins.{answers_ok}
-use Rattle.ctr_page_turns.specs.Turns.{Reads}
-use Rattle.ctr_page_turns.specs.Acts.{ActsBy}
-use Rattle.ctr_trim.specs.Trimming.{trimming_by}
-use Rattle.ctr_trim.proofs.Reading.{reads_fault}
+use Rattle.ctr_pvs.proofs.walk_Joins.{answers_ok}
+use Rattle.ctr_dead.specs.page_turns_Turns.{Reads}
+use Rattle.ctr_dead.specs.page_turns_Acts.{ActsBy}
+use Rattle.ctr_dead.specs.trim_Trimming.{trimming_by}
+use Rattle.ctr_dead.proofs.trim_Reading.{reads_fault}
 use Rattle.ctr_clean.specs.declared.choosing.SlotTask.{SlotTask}
 use Rattle.ctr_clean.specs.declared.steps.Step.{Step}
 use Rattle.ctr_clean.specs.declared.steps.Step.TheVariants.{Cleaned, Nothing}

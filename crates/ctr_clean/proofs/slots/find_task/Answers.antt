@@ -1,4 +1,4 @@
-use Rattle.ctr_trim.proofs.Reading.{reads_fault}
+use Rattle.ctr_dead.proofs.trim_Reading.{reads_fault}
 use Rattle.ctr_clean.specs.declared.choosing.SlotFacts.{SlotFacts}
 use Rattle.ctr_clean.specs.declared.choosing.SlotTask.{SlotTask}
 use Rattle.ctr_clean.proofs.slots.find_task.Goals as goal

@@ -1,6 +1,6 @@
 use Rattle.std.proofs.Common.{Bool}
 use Rattle.ctr_titles.specs.declared.reading.TitleRead.{TitleRead}
-use Rattle.ctr_trim.proofs.Reading.{reads_fault}
+use Rattle.ctr_dead.proofs.trim_Reading.{reads_fault}
 use Rattle.ctr_clean.proofs.tables.dies_at.Goals as goal
 
 pub returns-in-Err-clause-leaves : goal.returns-in-Err-clause-leaves

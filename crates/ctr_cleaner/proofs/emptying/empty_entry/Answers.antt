@@ -1,6 +1,6 @@
 use Rattle.std.proofs.Common.{◌≡◌, true, sym, ◌∙◌, ap, subst}
 use Rattle.std.proofs.lemmas.Bool.{false≢true}
-use Rattle.ctr_cursor.specs.declared.position.Position.TheVariants.{Entry}
+use Rattle.ctr_emptying.specs.cursor_Position.TheVariants.{Entry}
 use Rattle.ctr_cleaner.specs.declared.done.MayEmpty.{MayEmpty}
 use Rattle.ctr_cleaner.specs.Finding.{HasNothingInDead}
 use Rattle.ctr_cleaner.specs.Turning.{MayAll}

@@ -3,7 +3,7 @@ use Rattle.std.proofs.lemmas.Bool.{false≢true}
 use Rattle.std.specs.Prelude.{IfOk, IfErr}
 use Rattle.ctr_disk.specs.declared.fault.StoreFault.{StoreFault}
 use Rattle.ctr_disk.specs.declared.fault.StoreFault.TheVariants.{Fault}
-use Rattle.ctr_cursor.specs.declared.position.Position.TheVariants.{Entry}
+use Rattle.ctr_emptying.specs.cursor_Position.TheVariants.{Entry}
 use Rattle.ctr_cleaner.specs.Parts.{DidAt, HasNoEntryToFree, done_freed}
 use Rattle.ctr_cleaner.proofs.Joined.{part_told}
 use Rattle.ctr_cleaner.proofs.Found.{freed_err, done_so, frees_entry}

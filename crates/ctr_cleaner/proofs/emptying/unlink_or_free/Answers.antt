@@ -2,9 +2,9 @@ use Rattle.std.proofs.Common.{◌≡◌, true, [], None, Some, Ok, refl, ◌∙�
 use Rattle.std.specs.Prelude.{IfOk, IfErr}
 use Rattle.ctr_disk.specs.declared.fault.StoreFault.{StoreFault}
 use Rattle.ctr_disk.specs.declared.fault.StoreFault.TheVariants.{Fault}
-use Rattle.ctr_redo.specs.States.{State}
-use Rattle.ctr_record_effects.specs.Standing.{IsDatabaseState}
-use Rattle.ctr_cursor.specs.declared.position.Position.TheVariants.{Entry}
+use Rattle.ctr_walk.specs.redo_States.{State}
+use Rattle.ctr_walk.specs.record_effects_Standing.{IsDatabaseState}
+use Rattle.ctr_emptying.specs.cursor_Position.TheVariants.{Entry}
 use Rattle.ctr_cleaner.specs.Finding.{HasNothingInDead}
 use Rattle.ctr_cleaner.specs.Turning.{heeding}
 use Rattle.ctr_cleaner.specs.Parts.{DidAt, HasNoPageToGo, HasNoEntryToFree}

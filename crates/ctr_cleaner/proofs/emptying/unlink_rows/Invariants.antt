@@ -1,8 +1,8 @@
 use Rattle.std.proofs.Common.{◌≡◌, true, None, Ok}
 use Rattle.std.specs.Prelude.{IsTrue}
-use Rattle.ctr_base.specs.Base.{IsSoundImage}
-use Rattle.ctr_record_effects.specs.States.{area_in}
-use Rattle.ctr_record_effects.specs.Standing.{IsDatabaseState}
+use Rattle.ctr_walk.specs.base_Base.{IsSoundImage}
+use Rattle.ctr_walk.specs.record_effects_States.{area_in}
+use Rattle.ctr_walk.specs.record_effects_Standing.{IsDatabaseState}
 use Rattle.ctr_walk.specs.OneRecord.{HasRoomForOne}
 use Rattle.ctr_cleaner.specs.Parts.{Tries}
 use Rattle.ctr_cleaner.proofs.Found.{HasNoneTo}

@@ -2,11 +2,11 @@ use Rattle.std.proofs.Common.{◌≡◌, [], None, Some, Ok, Err, refl, ◌∙�
 use Rattle.std.specs.Prelude.{IfOk, IfErr}
 use Rattle.ctr_disk.specs.declared.fault.StoreFault.{StoreFault}
 use Rattle.ctr_disk.specs.declared.fault.StoreFault.TheVariants.{Fault}
-use Rattle.ctr_redo.specs.States.{State}
-use Rattle.ctr_record_effects.specs.States.{area_in}
-use Rattle.ctr_record_effects.specs.Standing.{IsDatabaseState}
-use Rattle.ctr_clean.specs.Tables.{OwesDying}
-use Rattle.ctr_cursor.specs.declared.position.Position.TheVariants.{Entry}
+use Rattle.ctr_walk.specs.redo_States.{State}
+use Rattle.ctr_walk.specs.record_effects_States.{area_in}
+use Rattle.ctr_walk.specs.record_effects_Standing.{IsDatabaseState}
+use Rattle.ctr_emptying.specs.clean_Tables.{OwesDying}
+use Rattle.ctr_emptying.specs.cursor_Position.TheVariants.{Entry}
 use Rattle.ctr_cleaner.specs.Finding.{IsFreeRow, HasNothingAt, HasNothingInDead}
 use Rattle.ctr_cleaner.specs.Turning.{heeding, MayAll}
 use Rattle.ctr_cleaner.specs.Parts.{DidAt, done_step}

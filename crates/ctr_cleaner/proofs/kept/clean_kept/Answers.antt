@@ -4,12 +4,12 @@ use Rattle.std.specs.Prelude.{IfOk, IfErr}
 use Rattle.ctr_disk.specs.declared.fault.StoreFault.{StoreFault}
 use Rattle.ctr_disk.specs.declared.fault.StoreFault.TheVariants.{Fault}
 use Rattle.ctr_area.specs.Images.{is_live}
-use Rattle.ctr_redo.specs.States.{State}
-use Rattle.ctr_record_effects.specs.States.{area_in}
-use Rattle.ctr_record_effects.specs.Standing.{IsDatabaseState}
+use Rattle.ctr_walk.specs.redo_States.{State}
+use Rattle.ctr_walk.specs.record_effects_States.{area_in}
+use Rattle.ctr_walk.specs.record_effects_Standing.{IsDatabaseState}
 use Rattle.ctr_actions.specs.Sites.{site_of}
-use Rattle.ctr_cursor.specs.declared.position.Position.TheVariants.{Kept}
-use Rattle.ctr_cursor.specs.Standing.{IsPosition}
+use Rattle.ctr_emptying.specs.cursor_Position.TheVariants.{Kept}
+use Rattle.ctr_emptying.specs.cursor_Standing.{IsPosition}
 use Rattle.ctr_cleaner.specs.Finding.{IsFreeRow, HasNothingAt}
 use Rattle.ctr_cleaner.specs.Turning.{heeding}
 use Rattle.ctr_cleaner.specs.Parts.{DidAt}

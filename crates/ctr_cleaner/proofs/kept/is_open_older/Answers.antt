@@ -2,11 +2,11 @@ use Rattle.std.proofs.Common.{rules, ◌≢◌, Bool, ◌∙◌, subst}
 use Rattle.std.specs.Int.{w64}
 use Rattle.std.proofs.lemmas.Int.{to_z-of_z}
 use Rattle.std.specs.Prelude.{IfOk}
-use Rattle.ctr_redo.specs.States.{State}
-use Rattle.ctr_record_effects.specs.States.{area_in}
+use Rattle.ctr_walk.specs.redo_States.{State}
+use Rattle.ctr_walk.specs.record_effects_States.{area_in}
 use Rattle.ctr_walk.proofs.Damages.{reads_err}
-use Rattle.ctr_clean.specs.declared.older.OlderFacts.{OlderFacts}
-use Rattle.ctr_clean.proofs.Resting.{reads_on}
+use Rattle.ctr_emptying.specs.clean_OlderFacts.{OlderFacts}
+use Rattle.ctr_emptying.proofs.clean_Resting.{reads_on}
 use Rattle.ctr_cleaner.specs.Parts.{KeySaid}
 use Rattle.ctr_cleaner.proofs.Found.{is_used, older_said}
 use Rattle.ctr_cleaner.proofs.kept.is_open_older.Goals as goal

@@ -1,6 +1,6 @@
-use Rattle.ctr_record_effects.specs.States.{pages_in}
+use Rattle.ctr_walk.specs.record_effects_States.{pages_in}
 use Rattle.ctr_actions.specs.Sites.{site_of}
-use Rattle.ctr_clean.specs.Choosing.{passes_below}
+use Rattle.ctr_emptying.specs.clean_Choosing.{passes_below}
 use Rattle.ctr_cleaner.proofs.Bare.{state_few, all_seen, passes_committed, nothing_left}
 use Rattle.ctr_cleaner.proofs.laws.a_pass_that_finds_nothing_leaves_it_bare.Goals as goal
 

@@ -1,7 +1,7 @@
 use Rattle.std.proofs.Common.{refl, sym, ◌∙◌, subst}
 use Rattle.std.specs.Prelude.{IfOk}
-use Rattle.ctr_clean.specs.Steps.{HasNoRevert}
-use Rattle.ctr_cursor.specs.declared.position.Position.TheVariants.{Slot}
+use Rattle.ctr_emptying.specs.clean_Steps.{HasNoRevert}
+use Rattle.ctr_emptying.specs.cursor_Position.TheVariants.{Slot}
 use Rattle.ctr_cleaner.specs.Finding.{HasNothingInSlot}
 use Rattle.ctr_cleaner.specs.Turning.{heeding}
 use Rattle.ctr_cleaner.specs.Parts.{DidAt, done_step}

@@ -5,11 +5,11 @@ use Rattle.ctr_disk.specs.declared.fault.StoreFault.TheVariants.{Fault}
 use Rattle.ctr_area.specs.Chains.{slot_places}
 use Rattle.ctr_area.specs.Images.{is_live}
 use Rattle.ctr_area.specs.Sound.{IsAmong}
-use Rattle.ctr_redo.specs.States.{State}
-use Rattle.ctr_record_effects.specs.States.{area_in}
-use Rattle.ctr_record_effects.specs.Standing.{IsDatabaseState}
-use Rattle.ctr_cursor.specs.declared.position.Position.TheVariants.{Slot}
-use Rattle.ctr_cursor.proofs.Leads.{slot_place}
+use Rattle.ctr_walk.specs.redo_States.{State}
+use Rattle.ctr_walk.specs.record_effects_States.{area_in}
+use Rattle.ctr_walk.specs.record_effects_Standing.{IsDatabaseState}
+use Rattle.ctr_emptying.specs.cursor_Position.TheVariants.{Slot}
+use Rattle.ctr_emptying.proofs.cursor_Leads.{slot_place}
 use Rattle.ctr_cleaner.specs.Finding.{IsFreeRow, HasNothingAt, HasNothingInSlot}
 use Rattle.ctr_cleaner.specs.Turning.{heeding}
 use Rattle.ctr_cleaner.specs.Parts.{DidAt, OpenSaid, IsOpenSlot}

@@ -3,10 +3,10 @@ use Rattle.std.specs.Prelude.{IfOk, IfErr}
 use Rattle.ctr_disk.specs.declared.fault.StoreFault.{StoreFault}
 use Rattle.ctr_disk.specs.declared.fault.StoreFault.TheVariants.{Fault}
 use Rattle.ctr_actions.specs.Sites.{site_of}
-use Rattle.ctr_clean.specs.Lists.{HasNoForget}
-use Rattle.ctr_cursor.specs.declared.position.Position.{Position}
-use Rattle.ctr_cursor.specs.declared.position.Position.TheVariants.{Slot, Kept, Aborted}
-use Rattle.ctr_cursor.specs.Standing.{IsPosition}
+use Rattle.ctr_emptying.specs.clean_Lists.{HasNoForget}
+use Rattle.ctr_emptying.specs.cursor_Position.{Position}
+use Rattle.ctr_emptying.specs.cursor_Position.TheVariants.{Slot, Kept, Aborted}
+use Rattle.ctr_emptying.specs.cursor_Standing.{IsPosition}
 use Rattle.ctr_cleaner.specs.Finding.{IsFreeRow, HasNothingAt}
 use Rattle.ctr_cleaner.specs.Turning.{heeding, MayAll}
 use Rattle.ctr_cleaner.specs.Parts.{DidAt, done_step}

@@ -1,13 +1,13 @@
 use Rattle.std.proofs.Common.{◌≡◌, Option, None, Some, Ok, Err, refl, sym, ◌∙◌, ap, subst}
 use Rattle.ctr_disk.specs.declared.fault.StoreFault.TheVariants.{Fault}
-use Rattle.ctr_redo.specs.States.{State}
-use Rattle.ctr_record_effects.specs.Standing.{IsDatabaseState}
+use Rattle.ctr_walk.specs.redo_States.{State}
+use Rattle.ctr_walk.specs.record_effects_Standing.{IsDatabaseState}
 use Rattle.ctr_actions.specs.Sites.{site_of}
 use Rattle.ctr_walk.proofs.Damages.{reads_err}
 use Rattle.ctr_walk.proofs.Joins.{answers_ok}
-use Rattle.ctr_page_turns.specs.Turns.{Reads}
-use Rattle.ctr_cursor.specs.declared.position.Position.{Position}
-use Rattle.ctr_cursor.specs.Standing.{IsPosition}
+use Rattle.ctr_emptying.specs.page_turns_Turns.{Reads}
+use Rattle.ctr_emptying.specs.cursor_Position.{Position}
+use Rattle.ctr_emptying.specs.cursor_Standing.{IsPosition}
 use Rattle.ctr_cleaner.specs.declared.done.CleanTurn.{CleanTurn}
 use Rattle.ctr_cleaner.specs.declared.done.CleanTurn.TheVariants.{Moved, Over}
 use Rattle.ctr_cleaner.specs.Turning.{heeding, TurnsAt, next_cleaned, LeavesRoomBy, IsWithin}

@@ -1,9 +1,9 @@
 use Rattle.std.proofs.Common.{◌≡◌, ℕ, ◌+◌, List, [], ◌∷◌, refl, ap, ◌∙◌}
 use Rattle.ctr_rec.specs.declared.record.Record.TheVariants.{Forget}
-use Rattle.ctr_redo.specs.States.{State, step, pages_after}
+use Rattle.ctr_walk.specs.redo_States.{State, step, pages_after}
 use Rattle.ctr_meta.specs.Effects.{effect}
-use Rattle.ctr_actions.specs.Sites.{site_of}
-use Rattle.ctr_actions.specs.Actions.{Forgets, site_after}
+use Rattle.ctr_alloc.specs.actions_Sites.{site_of}
+use Rattle.ctr_alloc.specs.actions_Actions.{Forgets, site_after}
 use Rattle.ctr_txn.proofs.OneRecord.{logged_now, refused_now}
 use Rattle.ctr_dead.proofs.forgetting.forget.Goals as goal
 

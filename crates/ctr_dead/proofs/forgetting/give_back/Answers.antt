@@ -1,6 +1,6 @@
 use Rattle.std.proofs.Common.{◌/◌, [], ◌∷◌}
 use Rattle.ctr_record_effects.specs.Changing.{laid_at, free_record}
-use Rattle.ctr_actions.specs.Actions.{Reclaims}
+use Rattle.ctr_alloc.specs.actions_Actions.{Reclaims}
 use Rattle.ctr_dead.proofs.Three.{three_ok}
 use Rattle.ctr_dead.proofs.forgetting.give_back.Goals as goal
 

@@ -1,16 +1,16 @@
 use Rattle.std.proofs.Common.{◌≡◌, ◌≢◌, ℕ, ◌+◌, ◌/◌, ◌<◌, Bool, true, [], ◌∷◌, refl, sym, ap, ◌∙◌, subst}
 use Rattle.std.specs.Prelude.{IsTrue, OnOk, ⊤}
 use Rattle.std.proofs.lemmas.Bool.{eqb-true}
-use Rattle.ctr_base.specs.Base.{IsSoundImage}
+use Rattle.ctr_walk.specs.base_Base.{IsSoundImage}
 use Rattle.ctr_rec.specs.declared.record.Overlay.{Overlay}
 use Rattle.ctr_rec.specs.declared.record.Record.TheVariants.{Trim}
-use Rattle.ctr_redo.specs.States.{State, page_limit}
+use Rattle.ctr_walk.specs.redo_States.{State, page_limit}
 use Rattle.ctr_record_effects.specs.States.{area_in, IsWholePage}
 use Rattle.ctr_record_effects.specs.Changing.{laid_in_entry}
-use Rattle.ctr_actions.specs.Sites.{site_of}
-use Rattle.ctr_actions.specs.Actions.{MakesDead, site_after}
+use Rattle.ctr_alloc.specs.actions_Sites.{site_of}
+use Rattle.ctr_alloc.specs.actions_Actions.{MakesDead, site_after}
 use Rattle.ctr_area.specs.Images.{is_live}
-use Rattle.ctr_store.specs.Store.{Logs}
+use Rattle.ctr_walk.specs.store_Store.{Logs}
 use Rattle.ctr_walk.specs.OneRecord.{LogsOne}
 use Rattle.ctr_walk.proofs.Records.{both_ok}
 use Rattle.ctr_walk.proofs.Limits.{catalog_in_limit}

@@ -1,5 +1,5 @@
 use Rattle.std.proofs.Common.{ℕ, ◌<◌, sym, subst}
-use Rattle.ctr_redo.specs.States.{page_limit}
+use Rattle.ctr_walk.specs.redo_States.{page_limit}
 use Rattle.ctr_walk.proofs.Limits.{catalog_in_limit}
 use Rattle.ctr_dead.proofs.unlinking.lay_front.Goals as goal
 

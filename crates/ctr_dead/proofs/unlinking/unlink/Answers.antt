@@ -1,16 +1,16 @@
 use Rattle.std.proofs.Common.{◌≡◌, ◌≢◌, ℕ, ◌+◌, ◌/◌, ◌^◌, ◌<◌, ◌≤◌, inl, [], ◌∷◌, Ok, Err, refl, sym, ◌∙◌, ap, subst, arith}
 use Rattle.std.specs.Prelude.{IsTrue, OnOk, ⊤}
 use Rattle.ctr_bytes.specs.Fields.{spelled}
-use Rattle.ctr_base.specs.Base.{IsSoundImage}
+use Rattle.ctr_walk.specs.base_Base.{IsSoundImage}
 use Rattle.ctr_rec.specs.declared.record.Record.{Record}
-use Rattle.ctr_redo.specs.States.{State, step}
+use Rattle.ctr_walk.specs.redo_States.{State, step}
 use Rattle.ctr_page.specs.declared.checks.Chain.{Chain}
 use Rattle.ctr_page.specs.declared.checks.Chain.TheVariants.{Rows, Versions}
 use Rattle.ctr_page.specs.declared.header.Header.{Header}
 use Rattle.ctr_page.specs.Damage.{header_check, chain_entry}
 use Rattle.ctr_page.specs.Reading.{header_in}
 use Rattle.ctr_area.specs.Changes.{with_firsts, with_bucket}
-use Rattle.ctr_store.specs.Store.{Logs}
+use Rattle.ctr_walk.specs.store_Store.{Logs}
 use Rattle.ctr_pvs.proofs.Told.{header_here}
 use Rattle.ctr_walk.specs.Tables.{IsChain}
 use Rattle.ctr_walk.specs.OneRecord.{LogsOne}
@@ -21,9 +21,9 @@ use Rattle.ctr_walk.proofs.Records.{both_ok, one_behind}
 use Rattle.ctr_record_effects.specs.States.{pages_in, area_in, IsWholePage}
 use Rattle.ctr_record_effects.specs.Changing.{laid_in_entry}
 use Rattle.ctr_record_effects.specs.Standing.{IsDatabaseState}
-use Rattle.ctr_actions.specs.Sites.{site_of}
-use Rattle.ctr_actions.specs.Actions.{Unlinks, UnlinksOlder, Owes, site_after}
-use Rattle.ctr_passed.specs.Logged.{IsLaidAs}
+use Rattle.ctr_alloc.specs.actions_Sites.{site_of}
+use Rattle.ctr_alloc.specs.actions_Actions.{Unlinks, UnlinksOlder, Owes, site_after}
+use Rattle.ctr_trim.specs.passed_Logged.{IsLaidAs}
 use Rattle.ctr_dead.specs.Unlinking.{front_at, leaving_record, leaves_chain, OwedByLeaving, NextSaid}
 use Rattle.ctr_dead.proofs.Three.{three_ok}
 use Rattle.ctr_dead.proofs.Firsts.{first_to_leave, undamaged, leaves_it}

@@ -1,16 +1,16 @@
 use Rattle.std.proofs.Common.{Bool, Ok, Err, refl, subst}
-use Rattle.ctr_redo.specs.States.{State}
-use Rattle.ctr_record_effects.specs.States.{area_in}
-use Rattle.ctr_record_effects.specs.Standing.{IsDatabaseState}
+use Rattle.ctr_pvs.specs.redo_States.{State}
+use Rattle.ctr_pvs.specs.record_effects_States.{area_in}
+use Rattle.ctr_pvs.specs.record_effects_Standing.{IsDatabaseState}
 use Rattle.ctr_record_laws.specs.Owed.{OwedByFreeing}
-use Rattle.ctr_page_turns.specs.Turns.{Reads, LogsARecord}
-use Rattle.ctr_page_turns.specs.Acts.{ActsBy}
-use Rattle.ctr_dead.specs.Titles.{frees, freed_record}
+use Rattle.ctr_clean.specs.page_turns_Turns.{Reads, LogsARecord}
+use Rattle.ctr_clean.specs.page_turns_Acts.{ActsBy}
+use Rattle.ctr_clean.specs.dead_Titles.{frees, freed_record}
 use Rattle.ctr_emptying.specs.declared.emptied.Emptied.{Emptied}
 use Rattle.ctr_emptying.specs.declared.emptied.Emptied.TheVariants.{OneRecord, Nothing}
 use Rattle.ctr_emptying.specs.Looking.{FreeingSaid}
 use Rattle.ctr_emptying.proofs.Reading.{reads_fault}
-use Rattle.ctr_walk.proofs.Joins.{answers_ok}
+use Rattle.ctr_pvs.proofs.walk_Joins.{answers_ok}
 use Rattle.ctr_emptying.proofs.entry.free_entry_at.Goals as goal
 
 pub returns-in-Err-clause-turns : goal.returns-in-Err-clause-turns

@@ -1,8 +1,8 @@
 use Rattle.std.proofs.Common.{Bool, true, false, Ok, Err}
-use Rattle.ctr_walk.proofs.Damages.{reads_err}
-use Rattle.ctr_walk.proofs.Joins.{answers_ok}
-use Rattle.ctr_titles.specs.declared.reading.TitleRead.{TitleRead}
-use Rattle.ctr_reading.proofs.Told.{reads_behind}
+use Rattle.ctr_pvs.proofs.walk_Damages.{reads_err}
+use Rattle.ctr_pvs.proofs.walk_Joins.{answers_ok}
+use Rattle.ctr_clean.specs.titles_TitleRead.{TitleRead}
+use Rattle.ctr_cursor.proofs.reading_Told.{reads_behind}
 use Rattle.ctr_emptying.specs.declared.left.Left.{Left}
 use Rattle.ctr_emptying.proofs.entry.may_be_freed.Goals as goal
 

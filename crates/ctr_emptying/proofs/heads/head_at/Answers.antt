@@ -1,12 +1,12 @@
 use Rattle.std.proofs.Common.{ℕ, Option, Result, subst}
 use Rattle.ctr_disk.specs.declared.fault.StoreFault.{StoreFault}
 use Rattle.ctr_area.specs.Areas.{Slot}
-use Rattle.ctr_record_effects.specs.States.{pages_in}
-use Rattle.ctr_walk.specs.Damage.{damage_told, EndsTold}
+use Rattle.ctr_pvs.specs.record_effects_States.{pages_in}
+use Rattle.ctr_pvs.specs.walk_Damage.{damage_told, EndsTold}
 use Rattle.ctr_pvs.specs.declared.slot.LentSlot.{LentSlot}
 use Rattle.ctr_pvs.specs.Slots.{SlotSaidAt}
 use Rattle.ctr_area.specs.Reading.{columns_on}
-use Rattle.ctr_reading.proofs.Places.{slot_passes}
+use Rattle.ctr_cursor.proofs.reading_Places.{slot_passes}
 use Rattle.ctr_emptying.specs.Looking.{HeadSaid}
 use Rattle.ctr_emptying.proofs.Reading.{reads_fault, slot_undamaged}
 use Rattle.ctr_emptying.proofs.heads.head_at.Goals as goal

@@ -1,5 +1,5 @@
 use Rattle.std.proofs.Common.{ℕ, Bool, Option}
-use Rattle.ctr_walk.proofs.Damages.{reads_err}
+use Rattle.ctr_pvs.proofs.walk_Damages.{reads_err}
 use Rattle.ctr_emptying.proofs.heads.is_settled_at.Goals as goal
 
 pub returns-in-Err-clause-leaves : goal.returns-in-Err-clause-leaves

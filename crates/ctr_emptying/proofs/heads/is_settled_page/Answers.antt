@@ -1,16 +1,16 @@
 use Rattle.std.proofs.Common.{◌≡◌, ◌+◌, ◌<◌, ◌≤◌, ℕ, Bool, true, false, Ok, Err, refl, sym, ◌∙◌, ap, subst}
 use Rattle.ctr_disk.specs.declared.fault.StoreFault.TheVariants.{Fault}
 use Rattle.ctr_page.specs.Damage.{chain_entry}
-use Rattle.ctr_redo.specs.States.{State}
+use Rattle.ctr_pvs.specs.redo_States.{State}
 use Rattle.ctr_area.specs.Chains.{slot_places}
 use Rattle.ctr_area.specs.Sound.{IsAmong}
-use Rattle.ctr_record_effects.specs.States.{area_in}
-use Rattle.ctr_record_effects.specs.Standing.{IsDatabaseState}
-use Rattle.ctr_walk.proofs.Damages.{reads_err}
-use Rattle.ctr_walk.proofs.Joins.{answers_ok}
-use Rattle.ctr_reading.specs.declared.pages.PageSlots.{PageSlots}
-use Rattle.ctr_reading.proofs.Places.{page_slot}
-use Rattle.ctr_reading.proofs.Told.{reads_behind}
+use Rattle.ctr_pvs.specs.record_effects_States.{area_in}
+use Rattle.ctr_pvs.specs.record_effects_Standing.{IsDatabaseState}
+use Rattle.ctr_pvs.proofs.walk_Damages.{reads_err}
+use Rattle.ctr_pvs.proofs.walk_Joins.{answers_ok}
+use Rattle.ctr_cursor.specs.reading_PageSlots.{PageSlots}
+use Rattle.ctr_cursor.proofs.reading_Places.{page_slot}
+use Rattle.ctr_cursor.proofs.reading_Told.{reads_behind}
 use Rattle.ctr_emptying.specs.Looking.{is_settled, place_of}
 use Rattle.ctr_emptying.proofs.Settled.{none_yet, one_more, all_settled}
 use Rattle.ctr_emptying.proofs.heads.is_settled_page.Goals as goal

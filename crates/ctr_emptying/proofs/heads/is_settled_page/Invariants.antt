@@ -1,8 +1,8 @@
 use Rattle.std.proofs.Common.{Ok}
 use Rattle.std.specs.Prelude.{IsTrue, ⊤}
-use Rattle.ctr_base.specs.Base.{IsSoundImage}
-use Rattle.ctr_store.specs.Store.{LeavesPage}
-use Rattle.ctr_record_effects.specs.States.{area_in}
+use Rattle.ctr_pvs.specs.base_Base.{IsSoundImage}
+use Rattle.ctr_pvs.specs.store_Store.{LeavesPage}
+use Rattle.ctr_pvs.specs.record_effects_States.{area_in}
 use Rattle.ctr_emptying.proofs.Settled.{AreSettledTo}
 use Rattle.ctr_emptying.proofs.heads.is_settled_page.Given as goal
 

@@ -1,12 +1,12 @@
 use Rattle.std.proofs.Common.{inr, ◌+◌, ℕ, Bool, Option, true, false, Ok, Err, refl, subst}
-use Rattle.ctr_redo.specs.States.{State}
-use Rattle.ctr_record_effects.specs.States.{area_in}
+use Rattle.ctr_pvs.specs.redo_States.{State}
+use Rattle.ctr_pvs.specs.record_effects_States.{area_in}
 use Rattle.ctr_record_laws.specs.Owed.{first_page}
-use Rattle.ctr_walk.specs.Tables.{IsFirstPage}
-use Rattle.ctr_walk.proofs.Damages.{reads_err}
-use Rattle.ctr_walk.proofs.Joins.{answers_ok}
-use Rattle.ctr_walk.proofs.PagesRead.{reads_on, same_now, was_read}
-use Rattle.ctr_reading.proofs.Told.{reads_further}
+use Rattle.ctr_pvs.specs.walk_Tables.{IsFirstPage}
+use Rattle.ctr_pvs.proofs.walk_Damages.{reads_err}
+use Rattle.ctr_pvs.proofs.walk_Joins.{answers_ok}
+use Rattle.ctr_pvs.proofs.walk_PagesRead.{reads_on, same_now, was_read}
+use Rattle.ctr_cursor.proofs.reading_Told.{reads_further}
 use Rattle.ctr_emptying.proofs.Remaining.{one_more, no_rows, behind_first}
 use Rattle.ctr_emptying.proofs.left.has_rows.Goals as goal
 

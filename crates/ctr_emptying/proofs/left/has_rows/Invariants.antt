@@ -1,8 +1,8 @@
 use Rattle.std.proofs.Common.{◌≡◌}
 use Rattle.std.specs.Prelude.{IsTrue}
-use Rattle.ctr_base.specs.Base.{IsSoundImage}
-use Rattle.ctr_record_effects.specs.States.{area_in}
-use Rattle.ctr_walk.proofs.PagesRead.{HasRead}
+use Rattle.ctr_pvs.specs.base_Base.{IsSoundImage}
+use Rattle.ctr_pvs.specs.record_effects_States.{area_in}
+use Rattle.ctr_pvs.proofs.walk_PagesRead.{HasRead}
 use Rattle.ctr_emptying.proofs.Remaining.{AreEmptyTo}
 use Rattle.ctr_emptying.proofs.left.has_rows.Given as goal
 

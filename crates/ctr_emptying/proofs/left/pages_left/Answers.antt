@@ -1,7 +1,7 @@
 use Rattle.std.proofs.Common.{ℕ, Option, Ok, Err}
-use Rattle.ctr_walk.proofs.Damages.{reads_err}
-use Rattle.ctr_walk.proofs.Joins.{answers_ok}
-use Rattle.ctr_reading.proofs.Told.{reads_behind}
+use Rattle.ctr_pvs.proofs.walk_Damages.{reads_err}
+use Rattle.ctr_pvs.proofs.walk_Joins.{answers_ok}
+use Rattle.ctr_cursor.proofs.reading_Told.{reads_behind}
 use Rattle.ctr_emptying.specs.declared.left.Left.{Left}
 use Rattle.ctr_emptying.specs.declared.left.Left.TheVariants.{Versions, NoPage}
 use Rattle.std.proofs.Common.{Bool}

@@ -2,14 +2,14 @@ use Rattle.std.proofs.Common.{◌≡◌, ◌≢◌, ◌<◌, inr, ℕ, Bool, Opt
 use Rattle.std.specs.Prelude.{IfSome}
 use Rattle.ctr_disk.specs.declared.fault.StoreFault.TheVariants.{Fault}
 use Rattle.ctr_page.specs.declared.checks.Chain.TheVariants.{Rows}
-use Rattle.ctr_redo.specs.States.{State}
-use Rattle.ctr_record_effects.specs.States.{area_in}
+use Rattle.ctr_pvs.specs.redo_States.{State}
+use Rattle.ctr_pvs.specs.record_effects_States.{area_in}
 use Rattle.ctr_record_laws.specs.Owed.{first_page}
-use Rattle.ctr_walk.specs.Tables.{IsFirstPage}
-use Rattle.ctr_walk.proofs.Damages.{reads_err}
-use Rattle.ctr_walk.proofs.Joins.{answers_ok}
-use Rattle.ctr_reading.specs.Gathering.{IsBucketPage}
-use Rattle.ctr_reading.proofs.Told.{reads_behind}
+use Rattle.ctr_pvs.specs.walk_Tables.{IsFirstPage}
+use Rattle.ctr_pvs.proofs.walk_Damages.{reads_err}
+use Rattle.ctr_pvs.proofs.walk_Joins.{answers_ok}
+use Rattle.ctr_cursor.specs.reading_Gathering.{IsBucketPage}
+use Rattle.ctr_cursor.proofs.reading_Told.{reads_behind}
 use Rattle.ctr_emptying.specs.Looking.{SettledSaid}
 use Rattle.ctr_emptying.proofs.Settled.{front_page}
 use Rattle.ctr_emptying.proofs.rows.settled_front.Goals as goal

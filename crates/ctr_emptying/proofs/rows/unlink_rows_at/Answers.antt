@@ -1,20 +1,20 @@
 use Rattle.std.proofs.Common.{◌≡◌, ℕ, Option, Ok, Err, refl, subst}
 use Rattle.ctr_disk.specs.declared.fault.StoreFault.TheVariants.{Fault}
 use Rattle.ctr_page.specs.declared.checks.Chain.TheVariants.{Rows}
-use Rattle.ctr_redo.specs.States.{State}
-use Rattle.ctr_record_effects.specs.States.{area_in}
-use Rattle.ctr_record_effects.specs.Standing.{IsDatabaseState}
+use Rattle.ctr_pvs.specs.redo_States.{State}
+use Rattle.ctr_pvs.specs.record_effects_States.{area_in}
+use Rattle.ctr_pvs.specs.record_effects_Standing.{IsDatabaseState}
 use Rattle.ctr_record_laws.specs.Owed.{OwedByUnlink}
-use Rattle.ctr_actions.specs.Actions.{Unlinks}
-use Rattle.ctr_page_turns.specs.Turns.{Reads}
-use Rattle.ctr_page_turns.specs.Acts.{ActsBy}
+use Rattle.ctr_pvs.specs.actions_Actions.{Unlinks}
+use Rattle.ctr_clean.specs.page_turns_Turns.{Reads}
+use Rattle.ctr_clean.specs.page_turns_Acts.{ActsBy}
 use Rattle.ctr_emptying.specs.declared.emptied.Emptied.{Emptied}
 use Rattle.ctr_emptying.specs.declared.emptied.Emptied.TheVariants.{OneRecord, Nothing}
 use Rattle.ctr_emptying.specs.Looking.{FrontSaid}
 use Rattle.ctr_emptying.proofs.Reading.{reads_fault}
 use Rattle.ctr_emptying.proofs.Settled.{settled_owes, none_owes, eight_there}
 use Rattle.ctr_emptying.proofs.Turning.{leaving_turns}
-use Rattle.ctr_walk.proofs.Joins.{answers_ok}
+use Rattle.ctr_pvs.proofs.walk_Joins.{answers_ok}
 use Rattle.ctr_emptying.proofs.rows.unlink_rows_at.Goals as goal
 
 pub returns-in-Err-clause-turns : goal.returns-in-Err-clause-turns

@@ -1,28 +1,28 @@
 use Rattle.std.proofs.Common.{◌≡◌, ℕ, Bool, inl, [], ◌∷◌, List, Some, refl, sym, ◌∙◌, ap, subst}
 use Rattle.std.specs.Prelude.{IsTrue, OnOk, ⊤}
-use Rattle.ctr_base.specs.Base.{IsSoundImage}
+use Rattle.ctr_pvs.specs.base_Base.{IsSoundImage}
 use Rattle.ctr_types.specs.declared.value.Column.{Column}
 use Rattle.ctr_rec.specs.declared.record.Record.{Record}
-use Rattle.ctr_redo.specs.States.{State}
+use Rattle.ctr_passed.specs.redo_States.{State}
 use Rattle.ctr_page.specs.declared.rows.Place.{Place}
 use Rattle.ctr_page.specs.declared.rows.VersionEntry.{VersionEntry}
 use Rattle.ctr_page.specs.Places.{kept_size}
 use Rattle.ctr_page.specs.Making.{kept_bytes, IsEntry}
-use Rattle.ctr_area.specs.Areas.{Older, nowhere}
-use Rattle.ctr_area.specs.Reading.{older_said, columns_on, width_on}
-use Rattle.ctr_area.specs.Chains.{older_places}
-use Rattle.ctr_area.specs.Changes.{with_older}
-use Rattle.ctr_area.specs.Sound.{IsAmong}
-use Rattle.ctr_store.specs.Store.{Logs}
-use Rattle.ctr_walk.specs.OneRecord.{LogsOne}
-use Rattle.ctr_walk.specs.Damage.{damage_told}
-use Rattle.ctr_walk.proofs.Records.{both_ok, one_behind}
+use Rattle.ctr_passed.specs.area_Areas.{Older, nowhere}
+use Rattle.ctr_passed.specs.area_Reading.{older_said, columns_on, width_on}
+use Rattle.ctr_passed.specs.area_Chains.{older_places}
+use Rattle.ctr_passed.specs.area_Changes.{with_older}
+use Rattle.ctr_passed.specs.area_Sound.{IsAmong}
+use Rattle.ctr_pvs.specs.store_Store.{Logs}
+use Rattle.ctr_pvs.specs.walk_OneRecord.{LogsOne}
+use Rattle.ctr_pvs.specs.walk_Damage.{damage_told}
+use Rattle.ctr_pvs.proofs.walk_Records.{both_ok, one_behind}
 use Rattle.ctr_record_effects.specs.States.{pages_in, area_in, IsWholePage}
 use Rattle.ctr_record_effects.specs.Changing.{laid_on_place}
 use Rattle.ctr_record_effects.specs.Standing.{IsDatabaseState}
-use Rattle.ctr_record_laws.specs.Owed.{OwedByCut}
-use Rattle.ctr_actions.specs.Sites.{site_of}
-use Rattle.ctr_actions.specs.Actions.{Cuts, site_after}
+use Rattle.ctr_passed.specs.record_laws_Owed.{OwedByCut}
+use Rattle.ctr_passed.specs.actions_Sites.{site_of}
+use Rattle.ctr_passed.specs.actions_Actions.{Cuts, site_after}
 use Rattle.ctr_passed.specs.Laid.{width_in}
 use Rattle.ctr_passed.specs.Logged.{IsOlderOf}
 use Rattle.ctr_pvs.specs.Reading.{version_check_at}

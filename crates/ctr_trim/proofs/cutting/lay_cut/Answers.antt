@@ -1,4 +1,4 @@
-use Rattle.ctr_walk.proofs.Limits.{below_limit}
+use Rattle.ctr_pvs.proofs.walk_Limits.{below_limit}
 use Rattle.ctr_trim.proofs.cutting.lay_cut.Goals as goal
 
 pub log_on_page-requires-clause-there : goal.log_on_page-requires-clause-there

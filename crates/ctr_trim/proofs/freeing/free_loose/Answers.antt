@@ -2,20 +2,20 @@ use Rattle.std.proofs.Common.{◌≡◌, ℕ, inl, Some, Ok, Err, Result, refl, 
 use Rattle.std.specs.Prelude.{IsTrue, OnOk, IfErr, ⊤}
 use Rattle.ctr_disk.specs.declared.fault.StoreFault.{StoreFault}
 use Rattle.ctr_disk.specs.declared.fault.StoreFault.TheVariants.{Fault, Damaged}
-use Rattle.ctr_base.specs.Base.{IsSoundImage}
-use Rattle.ctr_redo.specs.States.{State}
+use Rattle.ctr_pvs.specs.base_Base.{IsSoundImage}
+use Rattle.ctr_passed.specs.redo_States.{State}
 use Rattle.ctr_page.specs.declared.walk.BadChain.{BadChain}
 use Rattle.ctr_page.specs.Places.{kept_size}
 use Rattle.ctr_page.specs.Making.{kept_bytes}
-use Rattle.ctr_walk.specs.Damage.{damage_told, EndsTold}
-use Rattle.ctr_walk.proofs.Damages.{reads}
-use Rattle.ctr_walk.proofs.Limits.{below_limit}
+use Rattle.ctr_pvs.specs.walk_Damage.{damage_told, EndsTold}
+use Rattle.ctr_pvs.proofs.walk_Damages.{reads}
+use Rattle.ctr_pvs.proofs.walk_Limits.{below_limit}
 use Rattle.ctr_record_effects.specs.States.{pages_in, area_in, IsWholePage}
 use Rattle.ctr_record_effects.specs.Changing.{laid_on_place}
 use Rattle.ctr_record_effects.specs.Standing.{IsDatabaseState}
-use Rattle.ctr_record_laws.specs.Loose.{IsLoose}
-use Rattle.ctr_actions.specs.Sites.{site_of}
-use Rattle.ctr_actions.specs.Actions.{FreesOlder, site_after}
+use Rattle.ctr_passed.specs.record_laws_Loose.{IsLoose}
+use Rattle.ctr_passed.specs.actions_Sites.{site_of}
+use Rattle.ctr_passed.specs.actions_Actions.{FreesOlder, site_after}
 use Rattle.ctr_passed.specs.Laid.{width_in}
 use Rattle.ctr_pvs.specs.Writing.{blank_entry, blank_record, drop_check, DropsEntry}
 use Rattle.ctr_page_turns.specs.Acts.{ActsBy}
