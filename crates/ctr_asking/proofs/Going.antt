@@ -8,8 +8,8 @@ use Rattle.ctr_disk.specs.declared.fault.StoreFault.{StoreFault}
 use Rattle.ctr_model.specs.Refusals.{first_of}
 use Rattle.ctr_rec.specs.declared.decoding.BadRecord.{BadRecord}
 use Rattle.ctr_names.specs.Search.{IsEntryFound, IsNoneFound}
-use Rattle.ctr_views.specs.actions_Sites.{Site}
-use Rattle.ctr_views.specs.catalog_Finding.{entry_seen, EndsEntries}
+use Rattle.ctr_wishes.specs.actions_Sites.{Site}
+use Rattle.ctr_wishes.specs.ctr_reading.catalog_Finding.{entry_seen, EndsEntries}
 use Rattle.ctr_txn.specs.Held.{TxnHeld}
 use Rattle.ctr_asking.specs.declared.asker.Answer.{Answer}
 use Rattle.ctr_asking.specs.declared.asker.Answer.TheVariants.{Refused, Free}

@@ -4,7 +4,7 @@ use Rattle.std.specs.Prelude.{is_some, nat_lt}
 use Rattle.std.proofs.lemmas.Bool.{cases_eq, false≢true, ltb-true, ltb-false}
 use Rattle.ctr_snap.specs.Seeing.{SnapshotTaken}
 use Rattle.ctr_versions.proofs.Keys.{known}
-use Rattle.ctr_views.specs.actions_Sites.{Site}
+use Rattle.ctr_wishes.specs.actions_Sites.{Site}
 use Rattle.ctr_asking.specs.Causes.{later, change_number, last_change}
 
 later_cases : (a b : Option ℕ) (k : ℕ) → later a b ≡ Some k → (a ≡ Some k) ⊎ (b ≡ Some k)

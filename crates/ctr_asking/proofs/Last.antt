@@ -5,8 +5,8 @@ use Rattle.std.proofs.lemmas.Bool.{false≢true}
 use Rattle.ctr_snap.specs.Seeing.{SnapshotTaken}
 use Rattle.ctr_versions.specs.Chains.{above}
 use Rattle.ctr_versions.specs.Xids.{Xids, number_of}
-use Rattle.ctr_views.specs.actions_Sites.{Site}
-use Rattle.ctr_views.specs.catalog_Finding.{changed_in}
+use Rattle.ctr_wishes.specs.actions_Sites.{Site}
+use Rattle.ctr_wishes.specs.ctr_reading.catalog_Finding.{changed_in}
 use Rattle.ctr_txn.specs.paged_Paged.{xids_of}
 use Rattle.ctr_txn.specs.Numbered.{number_asked}
 use Rattle.ctr_asking.specs.Causes.{change_number, last_change}

@@ -13,4 +13,5 @@ pub mod Firsts
 pub mod Presence
 pub mod Going
 pub mod Undropped
-pub use Rattle.ctr_views.proofs.Looking as views_Looking
+pub use Rattle.ctr_wishes.proofs.views_Looking as views_Looking
+pub use Rattle.ctr_wishes.proofs as ctr_wishes

@@ -24,11 +24,11 @@ use Rattle.ctr_record_laws.proofs.Latest.{live_some}
 use Rattle.ctr_names.specs.Held.{IsNameHeldBy}
 use Rattle.ctr_names.specs.Search.{IsEntryFound}
 use Rattle.ctr_names.proofs.Entries.{name_of, named_so}
-use Rattle.ctr_views.specs.actions_Sites.{Site}
-use Rattle.ctr_views.specs.catalog_Finding.{change_made, change_since, changed_in}
+use Rattle.ctr_wishes.specs.actions_Sites.{Site}
+use Rattle.ctr_wishes.specs.ctr_reading.catalog_Finding.{change_made, change_since, changed_in}
 use Rattle.ctr_locks.specs.Held.{held_by_session}
 use Rattle.ctr_locks.specs.Shows.{IsOnlyEntry, IsTheSame}
-use Rattle.ctr_views.proofs.Reading.{found_made}
+use Rattle.ctr_wishes.proofs.views_Reading.{found_made}
 use Rattle.ctr_asking.specs.declared.asker.Asker.{Asker}
 use Rattle.ctr_asking.specs.Asking.{Asking, me_held, sees_for}
 use Rattle.ctr_asking.proofs.Passing.{free_first, scene, viewer, firm, idle}

@@ -15,9 +15,9 @@ use Rattle.ctr_legal.specs.Kept.{IsFirm}
 use Rattle.ctr_legal.proofs.Keep.{all_none, idle_first, quiet_name}
 use Rattle.ctr_sessions.proofs.Alike.{unmapped}
 use Rattle.ctr_names.specs.Search.{IsNumberOf}
-use Rattle.ctr_views.specs.actions_Sites.{Site}
-use Rattle.ctr_views.specs.paged_Shown.{Scene}
-use Rattle.ctr_views.specs.Viewing.{Viewer}
+use Rattle.ctr_wishes.specs.actions_Sites.{Site}
+use Rattle.ctr_txn.specs.paged_Shown.{Scene}
+use Rattle.ctr_wishes.specs.ctr_views.Viewing.{Viewer}
 use Rattle.ctr_txn.specs.Held.{TxnHeld, scene_with}
 use Rattle.ctr_txn.proofs.Runs.{found_is}
 use Rattle.ctr_asking.specs.declared.asker.Asker.{Asker}

@@ -10,7 +10,7 @@ use Rattle.ctr_walk.specs.Damage.{EndsTold, ReadsPages}
 use Rattle.ctr_walk.proofs.Joins.{answers_ok, pages_join}
 use Rattle.ctr_walk.proofs.PagesRead.{HasRead}
 use Rattle.ctr_walk.proofs.Damages.{reads_err, reads_behind}
-use Rattle.ctr_undamaged.specs.Undamaged.{MeetsNoDamage}
+use Rattle.ctr_wishes.specs.ctr_reading.undamaged_Undamaged.{MeetsNoDamage}
 
 module _ {D : Type 0} (first : Image) (g : Ghosts D) where
   -- a call that reads pages, behind one that was answered

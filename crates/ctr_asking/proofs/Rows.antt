@@ -5,11 +5,11 @@ use Rattle.std.specs.Option.{option_map_or}
 use Rattle.ctr_meta.specs.Seen.{xid_is_changed}
 use Rattle.ctr_page.specs.declared.rows.Place.{Place}
 use Rattle.ctr_area.specs.Sound.{AreKeyed, IsUsedSlot}
-use Rattle.ctr_undamaged.specs.heap_Finding.{FindsKey}
-use Rattle.ctr_views.specs.actions_Sites.{Site}
-use Rattle.ctr_views.specs.paged_Shown.{Scene}
-use Rattle.ctr_views.specs.Scanning.{IsNoSlot}
-use Rattle.ctr_views.specs.Viewing.{Viewer, newest_in, number_since}
+use Rattle.ctr_wishes.specs.ctr_reading.heap_Finding.{FindsKey}
+use Rattle.ctr_wishes.specs.actions_Sites.{Site}
+use Rattle.ctr_txn.specs.paged_Shown.{Scene}
+use Rattle.ctr_wishes.specs.ctr_views.Scanning.{IsNoSlot}
+use Rattle.ctr_wishes.specs.ctr_views.Viewing.{Viewer, newest_in, number_since}
 use Rattle.ctr_asking.specs.Causes.{IsNewer, newer_at}
 use Rattle.ctr_asking.proofs.Numbers.{unseen_is}
 

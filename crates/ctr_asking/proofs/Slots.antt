@@ -5,8 +5,8 @@ use Rattle.ctr_disk.specs.declared.fault.StoreFault.{StoreFault}
 use Rattle.ctr_snap.specs.Seeing.{SnapshotTaken}
 use Rattle.ctr_page.specs.declared.rows.Place.{Place}
 use Rattle.ctr_area.specs.Areas.{Area}
-use Rattle.ctr_undamaged.specs.heap_Finding.{FindsKey}
-use Rattle.ctr_views.specs.actions_Sites.{Site}
+use Rattle.ctr_wishes.specs.ctr_reading.heap_Finding.{FindsKey}
+use Rattle.ctr_wishes.specs.actions_Sites.{Site}
 use Rattle.ctr_asking.specs.Causes.{IsNewer, newer_at}
 
 module _ (area : Area) (e : ℕ) (k key : ℤ) (found : Option Place) (same : k ≡ key) (finds : FindsKey area e k found) where

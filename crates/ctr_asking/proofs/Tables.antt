@@ -13,9 +13,9 @@ use Rattle.ctr_versions.proofs.Keys.{some_is}
 use Rattle.ctr_area.specs.Areas.{Area, Title}
 use Rattle.ctr_area.specs.Images.{is_live, is_standing}
 use Rattle.ctr_names.specs.Search.{IsEntryFound, IsNoneFound}
-use Rattle.ctr_views.specs.actions_Sites.{Site}
-use Rattle.ctr_views.specs.catalog_Columns.{columns_said}
-use Rattle.ctr_views.proofs.catalog_Searched.{seen_stands}
+use Rattle.ctr_wishes.specs.actions_Sites.{Site}
+use Rattle.ctr_wishes.specs.ctr_reading.catalog_Columns.{columns_said}
+use Rattle.ctr_wishes.proofs.catalog_Searched.{seen_stands}
 use Rattle.ctr_txn.specs.Held.{TxnHeld}
 use Rattle.ctr_asking.specs.Asking.{FindsFor, me_held, sees_for}
 use Rattle.ctr_asking.specs.Causes.{presence_refused}

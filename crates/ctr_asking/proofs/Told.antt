@@ -12,7 +12,7 @@ use Rattle.ctr_page.specs.declared.walk.BadChain.{BadChain}
 use Rattle.ctr_page.specs.declared.walk.BadChain.TheVariants.{OnPage, TooLong}
 use Rattle.ctr_area.specs.Reading.{area_of, title_of}
 use Rattle.ctr_walk.specs.Damage.{EndsTold}
-use Rattle.ctr_views.specs.catalog_Columns.{EndsChecked}
+use Rattle.ctr_wishes.specs.ctr_reading.catalog_Columns.{EndsChecked}
 use Rattle.ctr_asking.specs.Values.{bad_by, bad_in}
 
 -- the title of an entry is read where it stands

@@ -19,11 +19,11 @@ use Rattle.ctr_names.specs.Search.{IsEntryFound}
 use Rattle.ctr_names.proofs.Entries.{name_of}
 use Rattle.ctr_names.proofs.Held.{name_alone}
 use Rattle.ctr_names.proofs.Search.{found_undropped}
-use Rattle.ctr_views.specs.actions_Sites.{Site}
+use Rattle.ctr_wishes.specs.actions_Sites.{Site}
 use Rattle.ctr_txn.specs.paged_Paged.{xids_of}
-use Rattle.ctr_views.specs.paged_Shown.{Scene}
-use Rattle.ctr_views.specs.Viewing.{Viewer}
-use Rattle.ctr_views.proofs.Looking.{as_found, look, looking, names_shown}
+use Rattle.ctr_txn.specs.paged_Shown.{Scene}
+use Rattle.ctr_wishes.specs.ctr_views.Viewing.{Viewer}
+use Rattle.ctr_wishes.proofs.views_Looking.{as_found, look, looking, names_shown}
 use Rattle.ctr_asking.specs.declared.asker.Asker.{Asker}
 use Rattle.ctr_asking.specs.Asking.{Asking, sees_for}
 use Rattle.ctr_asking.proofs.Passing.{firm, scene, viewer}

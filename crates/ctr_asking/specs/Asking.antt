@@ -14,9 +14,9 @@ use Rattle.ctr_meta.specs.Seen.{xid_is_seen}
 use Rattle.ctr_area.specs.Images.{is_live}
 use Rattle.ctr_legal.specs.Kept.{IsKept}
 use Rattle.ctr_names.specs.Search.{IsEntryFound, IsNoneFound}
-use Rattle.ctr_views.specs.actions_Sites.{Site}
-use Rattle.ctr_views.specs.catalog_Finding.{entry_seen, EndsEntries}
-use Rattle.ctr_views.specs.paged_Shown.{IsShown}
+use Rattle.ctr_wishes.specs.actions_Sites.{Site}
+use Rattle.ctr_wishes.specs.ctr_reading.catalog_Finding.{entry_seen, EndsEntries}
+use Rattle.ctr_txn.specs.paged_Shown.{IsShown}
 use Rattle.ctr_locks.specs.Held.{LocksOfSession, session_locks}
 use Rattle.ctr_locks.specs.Shows.{ShowsKeyLocks}
 use Rattle.ctr_txn.specs.Held.{TxnHeld, TxnsHeld, IsOneOfEight, txn_of, scene_with}

@@ -9,10 +9,10 @@ use Rattle.ctr_model.specs.Refusals.{when, creates, changes_schema}
 use Rattle.ctr_meta.specs.Tables.{Tables}
 use Rattle.ctr_meta.specs.Seen.{xid_is_changed}
 use Rattle.ctr_page.specs.declared.rows.Place.{Place}
-use Rattle.ctr_views.specs.actions_Sites.{Site}
-use Rattle.ctr_views.specs.catalog_Finding.{changed_in}
-use Rattle.ctr_undamaged.specs.heap_Finding.{FindsKey}
-use Rattle.ctr_views.specs.Viewing.{newest_in}
+use Rattle.ctr_wishes.specs.actions_Sites.{Site}
+use Rattle.ctr_wishes.specs.ctr_reading.catalog_Finding.{changed_in}
+use Rattle.ctr_wishes.specs.ctr_reading.heap_Finding.{FindsKey}
+use Rattle.ctr_wishes.specs.ctr_views.Viewing.{newest_in}
 use Rattle.ctr_locks.specs.Held.{busy_among}
 use Rattle.ctr_txn.specs.Numbered.{number_asked}
 use Rattle.ctr_asking.specs.declared.asker.Asker.{Asker}

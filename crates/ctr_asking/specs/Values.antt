@@ -10,7 +10,7 @@ use Rattle.ctr_page.specs.Columns.{columns_from, entry_at}
 use Rattle.ctr_page.specs.Damage.{entry_check}
 use Rattle.ctr_area.specs.Areas.{Title, Area}
 use Rattle.ctr_area.specs.Reading.{title_of}
-use Rattle.ctr_views.specs.catalog_Columns.{columns_said}
+use Rattle.ctr_wishes.specs.ctr_reading.catalog_Columns.{columns_said}
 
 -- the columns that an entry says from a number on
 abbrev pub columns_behind : ℕ → List ℕ → List Column

@@ -5,7 +5,7 @@ ghost use Rattle.ctr_model.specs.Refusals.{table_of, table_refusals, first_of, r
 ghost use Rattle.ctr_base.specs.Base.{WhereSound};
 ghost use Rattle.ctr_record_effects.specs.Standing.{IsDatabaseState};
 ghost use Rattle.ctr_walk.specs.Damage.{ReadsPages};
-ghost use Rattle.ctr_views.specs.actions_Sites.{site_of};
+ghost use Rattle.ctr_wishes.specs.actions_Sites.{site_of};
 ghost use Rattle.ctr_txn.specs.Held.{txn_of};
 ghost use Rattle.ctr_asking.specs.Asking.{Asking, IsInside, refusal_told, IsInCatalog, FindsTable};
 
@@ -19,8 +19,8 @@ use ctr_statement::table_of;
 use ctr_store::Store;
 use ctr_txn::Txn;
 use ctr_types::{Act, Name, Statement};
-use ctr_undamaged::a_catalog_search_meets_no_damage;
-use ctr_views::find;
+use ctr_wishes::reading::a_catalog_search_meets_no_damage;
+use ctr_wishes::reading::views::find;
 
 // On the table of a name.
 fn ask_named<D: Disk, O: Origin>(

@@ -6,7 +6,7 @@ ghost use Rattle.ctr_record_effects.specs.States.{area_in};
 ghost use Rattle.ctr_record_effects.specs.Standing.{IsDatabaseState};
 ghost use Rattle.ctr_area.specs.Sound.{AreReadable, IsUsedSlot};
 ghost use Rattle.ctr_walk.specs.Damage.{ReadsPages};
-ghost use Rattle.ctr_views.specs.actions_Sites.{site_of};
+ghost use Rattle.ctr_wishes.specs.actions_Sites.{site_of};
 ghost use Rattle.ctr_asking.specs.Causes.{number_unseen, newer_at, IsNewer};
 
 use ctr_base::Origin;
@@ -17,8 +17,8 @@ use ctr_snap::Snapshot;
 use ctr_store::Store;
 use ctr_txn::Txns;
 use ctr_types::Xid;
-use ctr_undamaged::{a_bucket_search_meets_no_damage, a_row_is_read_without_damage, find};
-use ctr_views::newest;
+use ctr_wishes::reading::views::newest;
+use ctr_wishes::reading::{a_bucket_search_meets_no_damage, a_row_is_read_without_damage, find};
 
 // The commit number of a transaction, where there is one that a snapshot doesn't see.
 fn number_unseen(meta: &Meta, snapshot: &Snapshot, txns: &Txns, who: Option<Xid>) -> Option<u64>

@@ -9,7 +9,7 @@ ghost use Rattle.ctr_model.specs.State.{view};
 ghost use Rattle.ctr_model.specs.Refusals.{table_of, presence_refusals, value_refusals, busy_by, locked_by, schema_changed_by, row_changed_by, refusal_of};
 ghost use Rattle.ctr_area.specs.Images.{is_live};
 ghost use Rattle.ctr_names.specs.Search.{IsEntryFound, IsNoneFound};
-ghost use Rattle.ctr_views.specs.actions_Sites.{Site};
+ghost use Rattle.ctr_wishes.specs.actions_Sites.{Site};
 ghost use Rattle.ctr_locks.specs.Held.{IsInOrder, locked_among};
 ghost use Rattle.ctr_locks.specs.Shows.{IsOnlyEntry};
 ghost use Rattle.ctr_asking.specs.declared.asker.Asker.{Asker as WhoAsks};
@@ -18,7 +18,7 @@ ghost use Rattle.ctr_asking.specs.Causes.{presence_refused, busy_at, last_change
 ghost use Rattle.ctr_asking.specs.Asking.{Asking, HasPassed, FindsFor, sees_for};
 
 use ctr_locks::key_locks_are_the_models;
-use ctr_views::{
+use ctr_wishes::reading::views::{
     the_newest_change_of_a_name_is_told, what_changed_answers_is_in_the_model,
     what_find_answers_is_in_the_view, what_newest_answers_is_in_the_model,
 };

@@ -19,6 +19,7 @@ pub use asking::ask;
 pub use ctr_txn::{
     Txns, room_that_is_kept_is_there, the_room_of_all_stays, the_run_is_of_the_sessions,
 };
+pub use ctr_wishes as wishes;
 pub use laws::{
     a_table_that_is_free_is_undropped, what_tells_of_a_name_is_the_models,
     what_tells_of_a_row_is_the_models,

@@ -10,7 +10,7 @@ ghost use Rattle.ctr_base.specs.Base.{WhereSound};
 ghost use Rattle.ctr_store.specs.Store.{View, LeavesPage};
 ghost use Rattle.ctr_record_effects.specs.Standing.{IsDatabaseState};
 ghost use Rattle.ctr_walk.specs.Damage.{ReadsPages};
-ghost use Rattle.ctr_views.specs.actions_Sites.{site_of};
+ghost use Rattle.ctr_wishes.specs.actions_Sites.{site_of};
 ghost use Rattle.ctr_txn.specs.Held.{txn_of};
 ghost use Rattle.ctr_asking.specs.Asking.{Asking, FindsFor};
 

@@ -6,7 +6,7 @@ ghost use Rattle.ctr_model.specs.State.{has_name};
 ghost use Rattle.ctr_base.specs.Base.{WhereSound};
 ghost use Rattle.ctr_record_effects.specs.Standing.{IsDatabaseState};
 ghost use Rattle.ctr_walk.specs.Damage.{ReadsPages};
-ghost use Rattle.ctr_views.specs.actions_Sites.{site_of};
+ghost use Rattle.ctr_wishes.specs.actions_Sites.{site_of};
 ghost use Rattle.ctr_txn.specs.Numbered.{number_asked};
 ghost use Rattle.ctr_asking.specs.Causes.{presence_refused, busy_at, later, change_number, last_change};
 
@@ -18,8 +18,8 @@ use ctr_statement::{changes_schema, creates};
 use ctr_store::Store;
 use ctr_txn::Txns;
 use ctr_types::{Name, Refusal, Statement, Xid};
-use ctr_undamaged::a_catalog_search_meets_no_damage;
-use ctr_views::changed;
+use ctr_wishes::reading::a_catalog_search_meets_no_damage;
+use ctr_wishes::reading::views::changed;
 
 // Whether the table is there as the statement wants it.
 pub(crate) fn presence(statement: &Statement, found: Option<u8>) -> Option<Refusal>

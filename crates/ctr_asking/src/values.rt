@@ -7,8 +7,8 @@ ghost use Rattle.ctr_page.specs.declared.table.TheConstants.{PAGE_SIZE};
 ghost use Rattle.ctr_record_effects.specs.States.{pages_in, area_in};
 ghost use Rattle.ctr_record_effects.specs.Standing.{IsDatabaseState};
 ghost use Rattle.ctr_walk.specs.Damage.{searched, EndsOnPage, ReadsPages};
-ghost use Rattle.ctr_views.specs.catalog_Finding.{checks_at};
-ghost use Rattle.ctr_views.specs.catalog_Columns.{EndsChecked};
+ghost use Rattle.ctr_wishes.specs.ctr_reading.catalog_Finding.{checks_at};
+ghost use Rattle.ctr_wishes.specs.ctr_reading.catalog_Columns.{EndsChecked};
 ghost use Rattle.ctr_asking.specs.Values.{ValuesSaid, bad_in};
 
 use crate::columns::bad_value;
@@ -17,8 +17,8 @@ use ctr_disk::{Disk, StoreFault};
 use ctr_page::{BadPage, EntryState, check_entry, read_entry};
 use ctr_store::Store;
 use ctr_types::Statement;
-use ctr_undamaged::a_catalog_search_meets_no_damage;
 use ctr_walk::{SearchFault, an_entry_has_columns, catalog_page, found_on, tell};
+use ctr_wishes::reading::a_catalog_search_meets_no_damage;
 
 // By an entry on a page of the catalog, which is checked; none where it is free.
 fn bad_on(

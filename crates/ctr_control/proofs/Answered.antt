@@ -24,23 +24,23 @@ use Rattle.ctr_versions.proofs.Xids.{number_committed}
 use Rattle.ctr_versions.specs.Engine.{SessionHeld}
 use Rattle.ctr_versions.specs.Xids.{Xids, number_of, place_from}
 use Rattle.ctr_actions.specs.Sites.{Site, site_of}
-use Rattle.ctr_session_world.specs.paged_Paged.{Run, xids_of}
+use Rattle.ctr_writing.specs.ctr_session_world.paged_Paged.{Run, xids_of}
 use Rattle.ctr_store.specs.Store.{View}
 use Rattle.ctr_locks.specs.Held.{LocksOfSession, FreesAll, OfSession, locks_key}
 use Rattle.ctr_locks.specs.Shows.{ShowsKeyLocks, ReleaseLeavesLocks}
-use Rattle.ctr_session_world.proofs.kept_Walking.{keeps_reached}
-use Rattle.ctr_session_world.specs.kept_Walk.{Mind}
-use Rattle.ctr_session_world.specs.kept_Turns.{Start, InTransaction, KeepsRun, MayCome, Telling, entry_of, point_now, state_now, telling}
-use Rattle.ctr_session_world.specs.stops_World.{KeepsWorld}
-use Rattle.ctr_session_world.specs.txn_Asked.{Asked}
-use Rattle.ctr_session_world.specs.txn_Held.{AreTxns, TxnHeld, TxnsHeld, run_of}
-use Rattle.ctr_session_world.specs.txn_Steps.{AnswersNext}
-use Rattle.ctr_session_world.proofs.ctr_told.Answered.{answer_leaves}
-use Rattle.ctr_session_world.specs.ctr_told.Turning.{answered_mind}
+use Rattle.ctr_writing.proofs.ctr_session_world.kept_Walking.{keeps_reached}
+use Rattle.ctr_writing.specs.ctr_session_world.kept_Walk.{Mind}
+use Rattle.ctr_writing.specs.ctr_session_world.kept_Turns.{Start, InTransaction, KeepsRun, MayCome, Telling, entry_of, point_now, state_now, telling}
+use Rattle.ctr_writing.specs.ctr_session_world.stops_World.{KeepsWorld}
+use Rattle.ctr_writing.specs.ctr_session_world.txn_Asked.{Asked}
+use Rattle.ctr_writing.specs.ctr_session_world.txn_Held.{AreTxns, TxnHeld, TxnsHeld, run_of}
+use Rattle.ctr_writing.specs.ctr_session_world.txn_Steps.{AnswersNext}
+use Rattle.ctr_writing.proofs.ctr_session_world.ctr_told.Answered.{answer_leaves}
+use Rattle.ctr_writing.specs.ctr_session_world.ctr_told.Turning.{answered_mind}
 use Rattle.ctr_control.specs.Answers.{IsAnswered}
-use Rattle.ctr_session_world.specs.World.{InWorld, AreInTables, AreInOrder, names_in}
-use Rattle.ctr_session_world.proofs.Alike.{gone_in_order}
-use Rattle.ctr_session_world.proofs.Standing.{RunFinds}
+use Rattle.ctr_writing.specs.ctr_session_world.World.{InWorld, AreInTables, AreInOrder, names_in}
+use Rattle.ctr_writing.proofs.ctr_session_world.Alike.{gone_in_order}
+use Rattle.ctr_writing.proofs.ctr_session_world.Standing.{RunFinds}
 
 -- ---- places
 

@@ -18,21 +18,21 @@ use Rattle.ctr_area.specs.Sound.{IsAmong}
 use Rattle.ctr_actions.specs.Actions.{Commits, site_after}
 use Rattle.ctr_actions.specs.Facts.{Fact, HasTable}
 use Rattle.ctr_actions.specs.Sites.{Site, site_of}
-use Rattle.ctr_session_world.specs.paged_Paged.{Run}
+use Rattle.ctr_writing.specs.ctr_session_world.paged_Paged.{Run}
 use Rattle.ctr_store.specs.Store.{View}
 use Rattle.ctr_locks.specs.Held.{LocksOfSession}
 use Rattle.ctr_locks.specs.Shows.{ShowsKeyLocks}
-use Rattle.ctr_session_world.specs.kept_Tables.{AreTables}
-use Rattle.ctr_session_world.specs.kept_Walk.{Mind}
-use Rattle.ctr_session_world.specs.kept_Turns.{Start, InTransaction, asked_scene, carrying, state_now, telling}
-use Rattle.ctr_session_world.specs.stops_World.{KeepsWorld}
-use Rattle.ctr_session_world.specs.txn_Held.{TxnHeld, TxnsHeld, IsReading, IsWriting, run_of, txn_of}
-use Rattle.ctr_session_world.specs.ctr_told.Turning.{facts_idle}
-use Rattle.ctr_session_world.specs.World.{SessionsHeld, AreInTables, names_in, AreInOrder}
-use Rattle.ctr_session_world.specs.Told.{IsNextOf, IsTold}
-use Rattle.ctr_session_world.proofs.Alike.{AreAlike, alike_itself, shows_alike, in_table_still, table_of_more, put_in_order}
-use Rattle.ctr_session_world.proofs.Standing.{told_state}
-use Rattle.ctr_session_world.proofs.Numbers.{none_or_some}
+use Rattle.ctr_writing.specs.ctr_session_world.kept_Tables.{AreTables}
+use Rattle.ctr_writing.specs.ctr_session_world.kept_Walk.{Mind}
+use Rattle.ctr_writing.specs.ctr_session_world.kept_Turns.{Start, InTransaction, asked_scene, carrying, state_now, telling}
+use Rattle.ctr_writing.specs.ctr_session_world.stops_World.{KeepsWorld}
+use Rattle.ctr_writing.specs.ctr_session_world.txn_Held.{TxnHeld, TxnsHeld, IsReading, IsWriting, run_of, txn_of}
+use Rattle.ctr_writing.specs.ctr_session_world.ctr_told.Turning.{facts_idle}
+use Rattle.ctr_writing.specs.ctr_session_world.World.{SessionsHeld, AreInTables, names_in, AreInOrder}
+use Rattle.ctr_writing.specs.ctr_session_world.Told.{IsNextOf, IsTold}
+use Rattle.ctr_writing.proofs.ctr_session_world.Alike.{AreAlike, alike_itself, shows_alike, in_table_still, table_of_more, put_in_order}
+use Rattle.ctr_writing.proofs.ctr_session_world.Standing.{told_state}
+use Rattle.ctr_writing.proofs.ctr_session_world.Numbers.{none_or_some}
 
 module _ {D : Type 0} (g : Ghosts D) (c : Start) (opened : D) (a b : View D) (old : TxnsHeld) (locks : List (ℕ × LocksOfSession)) (s : ℕ)
     (next : IsNextOf g c opened a b (record { txns = old; locks = locks }) s st.Commit 0) (seat : InTransaction c next.mind s) where

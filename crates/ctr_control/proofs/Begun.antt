@@ -1,7 +1,7 @@
 -- A session that begins, in a World.
 use Rattle.std.proofs.Common.{◌≡◌, ◌⊎◌, inl, inr, ℕ, ℤ, ◌==◌, true, false, cond, List, [], Some, None, refl, sym, ◌∙◌, ap, subst}
 use Rattle.std.proofs.lemmas.Bool.{false≢true, eq-eqb, eqb-true}
-use Rattle.ctr_session_world.proofs.Alike.{put_in_order}
+use Rattle.ctr_writing.proofs.ctr_session_world.Alike.{put_in_order}
 use Rattle.ctr_disk.specs.declared.disk.Disk.{Ghosts}
 use Rattle.ctr_types.specs.declared.statement.Statement.TheVariants as st
 use Rattle.ctr_types.specs.declared.tape.Act.TheVariants as act
@@ -18,19 +18,19 @@ use Rattle.ctr_versions.proofs.Keys.{known}
 use Rattle.ctr_actions.specs.Facts.{Fact}
 use Rattle.ctr_actions.specs.Sites.{site_of}
 use Rattle.ctr_meta.specs.Tables.{Tables}
-use Rattle.ctr_session_world.specs.paged_Moving.{begun_now, held_as}
-use Rattle.ctr_session_world.specs.paged_Paged.{Run}
+use Rattle.ctr_writing.specs.ctr_session_world.paged_Moving.{begun_now, held_as}
+use Rattle.ctr_writing.specs.ctr_session_world.paged_Paged.{Run}
 use Rattle.ctr_redo.specs.States.{State as Stored}
 use Rattle.ctr_store.specs.Store.{View}
 use Rattle.ctr_locks.specs.Held.{LocksOfSession, held_by_session, session_locks}
 use Rattle.ctr_locks.specs.Shows.{ShowsKeyLocks, IsTheSame, BeginLeavesLocks}
-use Rattle.ctr_session_world.specs.kept_Turns.{Start, begun_mind, state_now, telling}
-use Rattle.ctr_session_world.specs.stops_World.{KeepsWorld}
-use Rattle.ctr_session_world.specs.txn_Held.{TxnHeld, TxnsHeld, IsOneOfEight, run_of, txn_of}
-use Rattle.ctr_session_world.specs.txn_Steps.{SetsTxn, txn_begun}
-use Rattle.ctr_session_world.specs.World.{SessionsHeld, IsInTable, AreInTables, names_in, AreInOrder}
-use Rattle.ctr_session_world.specs.Told.{IsNextOf, IsTold}
-use Rattle.ctr_session_world.proofs.Standing.{RunFinds, none_of, told_state}
+use Rattle.ctr_writing.specs.ctr_session_world.kept_Turns.{Start, begun_mind, state_now, telling}
+use Rattle.ctr_writing.specs.ctr_session_world.stops_World.{KeepsWorld}
+use Rattle.ctr_writing.specs.ctr_session_world.txn_Held.{TxnHeld, TxnsHeld, IsOneOfEight, run_of, txn_of}
+use Rattle.ctr_writing.specs.ctr_session_world.txn_Steps.{SetsTxn, txn_begun}
+use Rattle.ctr_writing.specs.ctr_session_world.World.{SessionsHeld, IsInTable, AreInTables, names_in, AreInOrder}
+use Rattle.ctr_writing.specs.ctr_session_world.Told.{IsNextOf, IsTold}
+use Rattle.ctr_writing.proofs.ctr_session_world.Standing.{RunFinds, none_of, told_state}
 
 -- the run with a session that begins
 abbrev pub RunSets : Type 0

@@ -3,7 +3,7 @@ use Rattle.std.proofs.Common.{◌≡◌, ℕ, ◌==◌, false, cond, List, [], S
 use Rattle.std.proofs.lemmas.Bool.{false≢true, eqb-true}
 use Rattle.std.specs.Prelude.{is_some}
 use Rattle.std.specs.Ordering.{nat_cmp}
-use Rattle.ctr_session_world.proofs.Alike.{in_table_still, gone_in_order}
+use Rattle.ctr_writing.proofs.ctr_session_world.Alike.{in_table_still, gone_in_order}
 use Rattle.ctr_disk.specs.declared.disk.Disk.{Ghosts}
 use Rattle.ctr_types.specs.declared.statement.Statement.{Statement}
 use Rattle.ctr_types.specs.declared.tape.Act.{Act}
@@ -18,14 +18,14 @@ use Rattle.ctr_record_effects.specs.States.{area_in}
 use Rattle.ctr_store.specs.Store.{View}
 use Rattle.ctr_locks.specs.Held.{LocksOfSession, FreesAll, OfSession, locks_key}
 use Rattle.ctr_locks.specs.Shows.{ShowsKeyLocks, ReleaseLeavesLocks}
-use Rattle.ctr_session_world.specs.kept_Walk.{Mind}
-use Rattle.ctr_session_world.specs.kept_Turns.{Start, gone_mind, state_now, telling}
-use Rattle.ctr_session_world.specs.stops_World.{KeepsWorld}
-use Rattle.ctr_session_world.specs.paged_Paged.{Run}
-use Rattle.ctr_session_world.specs.txn_Held.{TxnsHeld, run_of}
-use Rattle.ctr_session_world.specs.World.{IsInTable, AreInTables, names_in, AreInOrder}
-use Rattle.ctr_session_world.specs.Told.{CountsBehind, IsNextOf, IsTold}
-use Rattle.ctr_session_world.proofs.Standing.{told_state}
+use Rattle.ctr_writing.specs.ctr_session_world.kept_Walk.{Mind}
+use Rattle.ctr_writing.specs.ctr_session_world.kept_Turns.{Start, gone_mind, state_now, telling}
+use Rattle.ctr_writing.specs.ctr_session_world.stops_World.{KeepsWorld}
+use Rattle.ctr_writing.specs.ctr_session_world.paged_Paged.{Run}
+use Rattle.ctr_writing.specs.ctr_session_world.txn_Held.{TxnsHeld, run_of}
+use Rattle.ctr_writing.specs.ctr_session_world.World.{IsInTable, AreInTables, names_in, AreInOrder}
+use Rattle.ctr_writing.specs.ctr_session_world.Told.{CountsBehind, IsNextOf, IsTold}
+use Rattle.ctr_writing.proofs.ctr_session_world.Standing.{told_state}
 
 module _ {D : Type 0} (g : Ghosts D) (c : Start) (opened : D) (a b : View D) (old new : TxnsHeld) (locks left : List (ℕ × LocksOfSession)) (s : ℕ) (statement : Statement) (made : ℕ)
     (next : IsNextOf g c opened a b (record { txns = old; locks = locks }) s statement made) (x : Act) (r : Reply) where

@@ -6,7 +6,7 @@ use Rattle.ctr_area.specs.Areas.{Title}
 use Rattle.ctr_area.specs.Sound.{IsAmong}
 use Rattle.ctr_versions.proofs.Keys.{known}
 use Rattle.ctr_actions.specs.Facts.{Fact, IsOpen, HasPage, HasNoPageBut, HasBlank, HasSlot, HasCopy, HasTable}
-use Rattle.ctr_session_world.specs.kept_Tables.{IsTable, AreTables}
+use Rattle.ctr_writing.specs.ctr_session_world.kept_Tables.{IsTable, AreTables}
 
 -- a table that this transaction didn't make
 abbrev is_others : ℕ → Fact → Bool

@@ -25,25 +25,25 @@ use Rattle.ctr_redo.specs.States.{State as Stored}
 use Rattle.ctr_actions.specs.Actions.{site_after, undoing}
 use Rattle.ctr_actions.specs.Facts.{Fact, HasTable}
 use Rattle.ctr_actions.specs.Sites.{Site, site_of}
-use Rattle.ctr_session_world.proofs.paged_Tables.{has_in}
-use Rattle.ctr_session_world.specs.paged_Moving.{held_as}
-use Rattle.ctr_session_world.specs.paged_Paged.{Run}
+use Rattle.ctr_writing.proofs.ctr_session_world.paged_Tables.{has_in}
+use Rattle.ctr_writing.specs.ctr_session_world.paged_Moving.{held_as}
+use Rattle.ctr_writing.specs.ctr_session_world.paged_Paged.{Run}
 use Rattle.ctr_store.specs.Store.{View}
 use Rattle.ctr_locks.specs.Held.{LocksOfSession}
 use Rattle.ctr_locks.specs.Shows.{ShowsKeyLocks}
-use Rattle.ctr_session_world.proofs.kept_Walking.{keeps_reached}
-use Rattle.ctr_session_world.specs.kept_Walk.{Mind, IsAtRollback}
-use Rattle.ctr_session_world.specs.kept_Turns.{Start, InTransaction, MayCome, point_now, state_now, undoing_mind}
-use Rattle.ctr_session_world.specs.stops_World.{KeepsWorld}
-use Rattle.ctr_session_world.proofs.rollback_Worlds.{its_name}
-use Rattle.ctr_session_world.specs.ctr_rollback.Keeping.{IsActiveWriter, AreOthersTables}
-use Rattle.ctr_session_world.proofs.ctr_told.Acting.{is_ready}
-use Rattle.ctr_session_world.specs.txn_Held.{TxnHeld, TxnsHeld, run_of}
-use Rattle.ctr_session_world.specs.txn_Numbered.{NumbersHeld}
-use Rattle.ctr_session_world.specs.World.{SessionsHeld, IsInTable, AreInTables, names_in}
-use Rattle.ctr_session_world.specs.Told.{IsNextOf, IsKeptOn}
+use Rattle.ctr_writing.proofs.ctr_session_world.kept_Walking.{keeps_reached}
+use Rattle.ctr_writing.specs.ctr_session_world.kept_Walk.{Mind, IsAtRollback}
+use Rattle.ctr_writing.specs.ctr_session_world.kept_Turns.{Start, InTransaction, MayCome, point_now, state_now, undoing_mind}
+use Rattle.ctr_writing.specs.ctr_session_world.stops_World.{KeepsWorld}
+use Rattle.ctr_writing.proofs.ctr_session_world.rollback_Worlds.{its_name}
+use Rattle.ctr_writing.specs.ctr_session_world.ctr_rollback.Keeping.{IsActiveWriter, AreOthersTables}
+use Rattle.ctr_writing.proofs.ctr_session_world.ctr_told.Acting.{is_ready}
+use Rattle.ctr_writing.specs.ctr_session_world.txn_Held.{TxnHeld, TxnsHeld, run_of}
+use Rattle.ctr_writing.specs.ctr_session_world.txn_Numbered.{NumbersHeld}
+use Rattle.ctr_writing.specs.ctr_session_world.World.{SessionsHeld, IsInTable, AreInTables, names_in}
+use Rattle.ctr_writing.specs.ctr_session_world.Told.{IsNextOf, IsKeptOn}
 use Rattle.ctr_control.proofs.Others.{others_of, others_tables, others_counted, others_apart, counted_others}
-use Rattle.ctr_session_world.proofs.Standing.{comes}
+use Rattle.ctr_writing.proofs.ctr_session_world.Standing.{comes}
 
 -- ---- titles
 

@@ -13,15 +13,15 @@ use Rattle.ctr_versions.proofs.Keys.{some_is}
 use Rattle.ctr_versions.specs.Engine.{SessionHeld}
 use Rattle.ctr_area.specs.Sound.{xids_in}
 use Rattle.ctr_actions.specs.Sites.{site_of}
-use Rattle.ctr_session_world.specs.paged_Paged.{Run}
+use Rattle.ctr_writing.specs.ctr_session_world.paged_Paged.{Run}
 use Rattle.ctr_store.specs.Store.{View}
-use Rattle.ctr_session_world.proofs.kept_Walking.{keeps_reached}
-use Rattle.ctr_session_world.specs.kept_Turns.{Start, state_now}
-use Rattle.ctr_session_world.specs.txn_Asked.{Asked}
-use Rattle.ctr_session_world.specs.txn_Held.{AreTxns, TxnHeld, IsOneOfEight, txn_of}
-use Rattle.ctr_session_world.specs.World.{SessionsHeld}
-use Rattle.ctr_session_world.specs.Told.{IsNextOf}
-use Rattle.ctr_session_world.proofs.Standing.{RunFinds, seat_of}
+use Rattle.ctr_writing.proofs.ctr_session_world.kept_Walking.{keeps_reached}
+use Rattle.ctr_writing.specs.ctr_session_world.kept_Turns.{Start, state_now}
+use Rattle.ctr_writing.specs.ctr_session_world.txn_Asked.{Asked}
+use Rattle.ctr_writing.specs.ctr_session_world.txn_Held.{AreTxns, TxnHeld, IsOneOfEight, txn_of}
+use Rattle.ctr_writing.specs.ctr_session_world.World.{SessionsHeld}
+use Rattle.ctr_writing.specs.ctr_session_world.Told.{IsNextOf}
+use Rattle.ctr_writing.proofs.ctr_session_world.Standing.{RunFinds, seat_of}
 
 -- what stands at a place is in the list
 there_has : (x j : ℕ) (ys : List ℕ) → slice_get ys j ≡ Some x → has x ys ≡ true

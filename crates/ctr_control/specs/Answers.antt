@@ -7,10 +7,10 @@ use Rattle.ctr_types.specs.declared.tape.Reply.TheVariants as reply
 use Rattle.ctr_model.specs.declared.tape.Point.{Point}
 use Rattle.ctr_model.specs.Tape.{progress_of}
 use Rattle.ctr_store.specs.Store.{View}
-use Rattle.ctr_session_world.specs.kept_Walk.{Mind}
-use Rattle.ctr_session_world.specs.kept_Turns.{Start, point_now}
-use Rattle.ctr_session_world.specs.txn_Asked.{Asked}
-use Rattle.ctr_session_world.specs.World.{SessionsHeld, InWorld}
+use Rattle.ctr_writing.specs.ctr_session_world.kept_Walk.{Mind}
+use Rattle.ctr_writing.specs.ctr_session_world.kept_Turns.{Start, point_now}
+use Rattle.ctr_writing.specs.ctr_session_world.txn_Asked.{Asked}
+use Rattle.ctr_writing.specs.ctr_session_world.World.{SessionsHeld, InWorld}
 
 -- a World of these transactions and locks
 pub record IsWorld {D : Type 0} (g : Ghosts D) (c : Start) (opened : D) (v : View D)

@@ -2,8 +2,8 @@
 use Rattle.std.specs.Prelude.{Option, Some, None, Result, Ok, Err}
 use Rattle.ctr_disk.specs.declared.fault.StoreFault.{StoreFault}
 use Rattle.ctr_types.specs.declared.tape.Reply.{Reply}
-use Rattle.ctr_session_world.specs.ctr_rollback.declared.rolling.Rolled.{Rolled}
-use Rattle.ctr_session_world.specs.ctr_rollback.declared.rolling.Rolled.TheVariants.{Undone, Back}
+use Rattle.ctr_writing.specs.ctr_session_world.ctr_rollback.declared.rolling.Rolled.{Rolled}
+use Rattle.ctr_writing.specs.ctr_session_world.ctr_rollback.declared.rolling.Rolled.TheVariants.{Undone, Back}
 
 -- It goes on where an item was undone, and replies where the transaction is aborted.
 abbrev pub rolled_by : Option Reply → Rolled

@@ -2,22 +2,22 @@
 ghost use Rattle.std.specs.Prelude.{◌≡◌, ◌-◌, false, None, [], length, OnOk, OnErr, IfSome, Err};
 ghost use Rattle.ctr_disk.specs.declared.fault.StoreFault.TheVariants.{Fault};
 ghost use Rattle.ctr_base.specs.Base.{WhereSound};
-ghost use Rattle.ctr_session_world.specs.kept_Turns.{Start};
-ghost use Rattle.ctr_session_world.specs.kept_Walk.{Mind};
+ghost use Rattle.ctr_writing.specs.ctr_session_world.kept_Turns.{Start};
+ghost use Rattle.ctr_writing.specs.ctr_session_world.kept_Walk.{Mind};
 ghost use Rattle.ctr_store.specs.Store.{KeepsRoom, LeavesPage, turns_for_room};
-ghost use Rattle.ctr_session_world.specs.txn_Steps.{AnswersNext};
+ghost use Rattle.ctr_writing.specs.ctr_session_world.txn_Steps.{AnswersNext};
 ghost use Rattle.ctr_control.specs.Answers.{IsWorld, IsAnswered};
-ghost use Rattle.ctr_session_world.specs.Ready.{StandOver};
-ghost use Rattle.ctr_session_world.specs.World.{SessionsHeld, InWorld};
+ghost use Rattle.ctr_writing.specs.ctr_session_world.Ready.{StandOver};
+ghost use Rattle.ctr_writing.specs.ctr_session_world.World.{SessionsHeld, InWorld};
 
 use ctr_base::Origin;
 use ctr_disk::{Disk, StoreFault};
 use ctr_locks::{KeyLocks, key_locks_show};
-use ctr_session_world::told::a_commit_that_is_answered_is_told;
-use ctr_session_world::{
+use ctr_store::Store;
+use ctr_writing::session_world::told::a_commit_that_is_answered_is_told;
+use ctr_writing::session_world::{
     Asked, Txns, pages_that_are_read_keep_a_world, the_run_is_of_the_sessions,
 };
-use ctr_store::Store;
 
 /// Makes all that waits in the log durable, so that the commits that were asked for may be answered, whoever asked. In a World nothing else
 /// changes, and nothing is told. It is refused by the disk alone. It takes no memory.

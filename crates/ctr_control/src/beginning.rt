@@ -4,18 +4,18 @@ ghost use Rattle.ctr_types.specs.declared.statement.Statement.TheVariants as st;
 ghost use Rattle.ctr_types.specs.declared.tape.Act.TheVariants as act;
 ghost use Rattle.ctr_base.specs.Base.{WhereSound};
 ghost use Rattle.ctr_locks.specs.Held.{LocksOfSession};
-ghost use Rattle.ctr_session_world.specs.kept_Turns.{Start};
-ghost use Rattle.ctr_session_world.specs.txn_Held.{IsOneOfEight};
-ghost use Rattle.ctr_session_world.specs.Ready.{LeavesReady, StandOver, StaysUnasked};
-ghost use Rattle.ctr_session_world.specs.Told.{IsNextOf, IsTold};
+ghost use Rattle.ctr_writing.specs.ctr_session_world.kept_Turns.{Start};
+ghost use Rattle.ctr_writing.specs.ctr_session_world.txn_Held.{IsOneOfEight};
+ghost use Rattle.ctr_writing.specs.ctr_session_world.Ready.{LeavesReady, StandOver, StaysUnasked};
+ghost use Rattle.ctr_writing.specs.ctr_session_world.Told.{IsNextOf, IsTold};
 
 use ctr_base::Origin;
 use ctr_disk::Disk;
 use ctr_locks::key_locks_show;
-use ctr_session_world::told::{a_begin_is_told, a_refusal_is_told};
-use ctr_session_world::{Txns, the_run_is_of_the_sessions};
 use ctr_store::Store;
 use ctr_types::{Refusal, Reply};
+use ctr_writing::session_world::told::{a_begin_is_told, a_refusal_is_told};
+use ctr_writing::session_world::{Txns, the_run_is_of_the_sessions};
 use std::alloc::Global;
 
 /// BEGIN: a session begins a transaction, whose snapshot is of the commits that are answered. It is refused inside a transaction, and for

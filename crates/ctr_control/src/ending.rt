@@ -6,21 +6,21 @@ ghost use Rattle.ctr_types.specs.declared.tape.Act.TheVariants as act;
 ghost use Rattle.ctr_model.specs.Laws.{is_asked};
 ghost use Rattle.ctr_model.specs.Tape.{goes_on};
 ghost use Rattle.ctr_base.specs.Base.{WhereSound};
-ghost use Rattle.ctr_session_world.specs.kept_Turns.{Start};
-ghost use Rattle.ctr_session_world.specs.txn_Held.{txn_of};
-ghost use Rattle.ctr_session_world.specs.Ready.{LeavesReady, MayTurn, StaysUnasked, LeavesDisk, is_asking};
-ghost use Rattle.ctr_session_world.specs.Told.{IsNextOf, IsTold, IsIdleIn};
+ghost use Rattle.ctr_writing.specs.ctr_session_world.kept_Turns.{Start};
+ghost use Rattle.ctr_writing.specs.ctr_session_world.txn_Held.{txn_of};
+ghost use Rattle.ctr_writing.specs.ctr_session_world.Ready.{LeavesReady, MayTurn, StaysUnasked, LeavesDisk, is_asking};
+ghost use Rattle.ctr_writing.specs.ctr_session_world.Told.{IsNextOf, IsTold, IsIdleIn};
 
 use crate::marks::ask_for;
 use ctr_base::Origin;
 use ctr_disk::{Disk, StoreFault};
 use ctr_locks::{KeyLocks, key_locks_show};
-use ctr_session_world::told::{
-    a_commit_that_is_asked_for_is_told, a_reader_that_ends_is_told, a_refusal_is_told,
-};
-use ctr_session_world::{Txns, the_run_is_of_the_sessions};
 use ctr_store::Store;
 use ctr_types::{Refusal, Reply};
+use ctr_writing::session_world::told::{
+    a_commit_that_is_asked_for_is_told, a_reader_that_ends_is_told, a_refusal_is_told,
+};
+use ctr_writing::session_world::{Txns, the_run_is_of_the_sessions};
 
 /// COMMIT's first act, of the statement of this number: a transaction that wrote asks for its commit, by one record, and gets the next
 /// commit number; one that wrote nothing ends, with its locks. It takes no memory.

@@ -9,6 +9,8 @@ mod rolling;
 
 pub use answering::{answer_one, flush, make_room};
 pub use beginning::begin;
-pub use ctr_session_world::Txns;
+pub use ctr_writing as writing;
+pub use ctr_writing::session_world;
+pub use ctr_writing::session_world::Txns;
 pub use ending::ask;
 pub use rolling::{a_writer_may_roll_back, roll_back};

@@ -6,21 +6,21 @@ ghost use Rattle.ctr_record_effects.specs.Standing.{IsDatabaseState};
 ghost use Rattle.ctr_actions.specs.Actions.{Commits, Owes};
 ghost use Rattle.ctr_actions.specs.Sites.{site_of};
 ghost use Rattle.ctr_base.specs.Base.{WhereSound};
-ghost use Rattle.ctr_session_world.specs.walk_OneRecord.{LogsOne};
-ghost use Rattle.ctr_session_world.specs.txn_Held.{number_drawn};
-ghost use Rattle.ctr_session_world.specs.txn_Rooms.{HasItemRoom};
-ghost use Rattle.ctr_session_world.specs.txn_Calls.{MayEnd, IsOverStore, AsksFor};
+ghost use Rattle.ctr_writing.specs.ctr_session_world.walk_OneRecord.{LogsOne};
+ghost use Rattle.ctr_writing.specs.ctr_session_world.txn_Held.{number_drawn};
+ghost use Rattle.ctr_writing.specs.ctr_session_world.txn_Rooms.{HasItemRoom};
+ghost use Rattle.ctr_writing.specs.ctr_session_world.txn_Calls.{MayEnd, IsOverStore, AsksFor};
 ghost use Rattle.ctr_control.specs.Marks.{IsMarkedBy};
 
 use ctr_actions::an_action_meets_its_needs;
 use ctr_base::Origin;
 use ctr_disk::{Disk, StoreFault};
 use ctr_record_laws::pages_are_in_bounds;
-use ctr_session_world::{
+use ctr_store::Store;
+use ctr_writing::session_world::{
     Txns, a_record_acts, a_record_is_refused_by_the_disk_alone,
     records_without_bytes_lie_as_their_actions,
 };
-use ctr_store::Store;
 
 /// A session asks for its commit, by this statement.
 pub(crate) fn ask_for<D: Disk, O: Origin>(

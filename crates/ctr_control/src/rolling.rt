@@ -4,28 +4,28 @@ ghost use Rattle.ctr_disk.specs.declared.fault.StoreFault.TheVariants.{Fault};
 ghost use Rattle.ctr_types.specs.declared.statement.Statement.TheVariants as st;
 ghost use Rattle.ctr_types.specs.declared.tape.Act.TheVariants as act;
 ghost use Rattle.ctr_base.specs.Base.{WhereSound};
-ghost use Rattle.ctr_session_world.specs.kept_Turns.{Start};
+ghost use Rattle.ctr_writing.specs.ctr_session_world.kept_Turns.{Start};
 ghost use Rattle.ctr_store.specs.Store.{View};
-ghost use Rattle.ctr_session_world.specs.txn_Held.{IsOneOfEight, IsWriting, number_drawn};
-ghost use Rattle.ctr_session_world.specs.txn_Calls.{MayEnd};
-ghost use Rattle.ctr_session_world.specs.txn_Rooms.{HasItemRoom};
-ghost use Rattle.ctr_session_world.specs.page_turns_Turns.{LogsAtRest};
-ghost use Rattle.ctr_session_world.specs.ctr_rollback.Rolling.{MayRoll, EndsRoll, RollsTxns, TakesSteps};
+ghost use Rattle.ctr_writing.specs.ctr_session_world.txn_Held.{IsOneOfEight, IsWriting, number_drawn};
+ghost use Rattle.ctr_writing.specs.ctr_session_world.txn_Calls.{MayEnd};
+ghost use Rattle.ctr_writing.specs.ctr_session_world.txn_Rooms.{HasItemRoom};
+ghost use Rattle.ctr_writing.specs.ctr_session_world.page_turns_Turns.{LogsAtRest};
+ghost use Rattle.ctr_writing.specs.ctr_session_world.ctr_rollback.Rolling.{MayRoll, EndsRoll, RollsTxns, TakesSteps};
 ghost use Rattle.ctr_control.specs.Rolling.{as_rolled};
-ghost use Rattle.ctr_session_world.specs.Ready.{LeavesOver, MayTurn, LeavesDisk};
-ghost use Rattle.ctr_session_world.specs.Told.{IsNextOf, TellsOrGoesOn};
-ghost use Rattle.ctr_session_world.specs.World.{SessionsHeld};
+ghost use Rattle.ctr_writing.specs.ctr_session_world.Ready.{LeavesOver, MayTurn, LeavesDisk};
+ghost use Rattle.ctr_writing.specs.ctr_session_world.Told.{IsNextOf, TellsOrGoesOn};
+ghost use Rattle.ctr_writing.specs.ctr_session_world.World.{SessionsHeld};
 
 use ctr_base::Origin;
 use ctr_disk::{Disk, StoreFault};
 use ctr_locks::{KeyLocks, key_locks_show};
-use ctr_session_world::told::{a_reader_that_ends_is_told, a_refusal_is_told};
-use ctr_session_world::{
-    Rolled, Txns, a_turn_of_a_rollback_is_kept, the_run_is_of_the_sessions, turn,
-};
 use ctr_store::Store;
 use ctr_tally::Steps;
 use ctr_types::{Refusal, Reply};
+use ctr_writing::session_world::told::{a_reader_that_ends_is_told, a_refusal_is_told};
+use ctr_writing::session_world::{
+    Rolled, Txns, a_turn_of_a_rollback_is_kept, the_run_is_of_the_sessions, turn,
+};
 use std::sync::ledger::Ledger;
 
 // A turn of a writer's rollback, behind which a crash leaves what is hardened with some of what waits.

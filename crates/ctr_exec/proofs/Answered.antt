@@ -12,8 +12,8 @@ use Rattle.ctr_versions.proofs.Keys.{some_is}
 use Rattle.ctr_store.specs.Store.{View}
 use Rattle.ctr_control.specs.kept_Turns.{Start, entry_of, point_now, start_point, state_now}
 use Rattle.ctr_control.specs.txn_Held.{IsOneOfEight}
-use Rattle.ctr_writing.specs.ctr_session_world.World.{SessionsHeld}
-use Rattle.ctr_writing.specs.ctr_session_world.Told.{IsNextOf, IsTold}
+use Rattle.ctr_control.specs.ctr_session_world.World.{SessionsHeld}
+use Rattle.ctr_control.specs.ctr_session_world.Told.{IsNextOf, IsTold}
 use Rattle.ctr_exec.proofs.Points.{last_comes}
 use Rattle.ctr_exec.proofs.Replies.{asks_alone}
 

@@ -21,8 +21,8 @@ use Rattle.ctr_control.specs.txn_Held.{TxnsHeld, IsOneOfEight}
 use Rattle.ctr_control.specs.txn_Asked.{Asked}
 use Rattle.ctr_locks.specs.Held.{LocksOfSession}
 use Rattle.ctr_control.specs.Answers.{IsAnswered, answer_by}
-use Rattle.ctr_writing.specs.ctr_session_world.Told.{IsIdleBy}
-use Rattle.ctr_writing.specs.ctr_session_world.World.{SessionsHeld, InWorld}
+use Rattle.ctr_control.specs.ctr_session_world.Told.{IsIdleBy}
+use Rattle.ctr_control.specs.ctr_session_world.World.{SessionsHeld, InWorld}
 use Rattle.ctr_exec.specs.declared.runners.Runner.{Runner}
 use Rattle.ctr_exec.specs.declared.runners.Stage.TheVariants as stage
 use Rattle.ctr_exec.specs.declared.sessions.Sessions.{Sessions}

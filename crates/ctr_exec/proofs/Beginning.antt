@@ -10,7 +10,7 @@ use Rattle.ctr_control.specs.kept_Walk.{Mind, mind_at}
 use Rattle.ctr_locks.specs.Shows.{ShowsKeyLocks}
 use Rattle.ctr_control.specs.stops_World.{KeepsWorld}
 use Rattle.ctr_control.specs.txn_Held.{TxnHeld, held_from, run_of}
-use Rattle.ctr_writing.specs.ctr_session_world.World.{AreInTables, names_in}
+use Rattle.ctr_control.specs.ctr_session_world.World.{AreInTables, names_in}
 use Rattle.ctr_exec.specs.declared.runners.Stage.{Stage}
 use Rattle.ctr_exec.specs.declared.sessions.Sessions.{Sessions}
 use Rattle.ctr_exec.specs.Acting.{IsMidway}

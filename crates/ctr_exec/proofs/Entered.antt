@@ -18,7 +18,7 @@ use Rattle.ctr_store.specs.Store.{View}
 use Rattle.ctr_control.specs.kept_Turns.{Start, point_now, start_point, state_now}
 use Rattle.ctr_control.specs.kept_Walk.{Mind}
 use Rattle.ctr_control.specs.txn_Held.{IsOneOfEight}
-use Rattle.ctr_writing.specs.ctr_session_world.World.{InWorld}
+use Rattle.ctr_control.specs.ctr_session_world.World.{InWorld}
 use Rattle.ctr_exec.specs.declared.runners.Runner.{Runner}
 use Rattle.ctr_exec.specs.declared.runners.Stage.{Stage}
 use Rattle.ctr_exec.specs.declared.sessions.Sessions.{Sessions}

@@ -9,7 +9,7 @@ use Rattle.ctr_types.specs.declared.tape.Turn.TheVariants as turn
 use Rattle.ctr_store.specs.Store.{View, HasTurnRoom, KeepsRoom, turns_for_room}
 use Rattle.ctr_control.specs.txn_Asked.{Asked}
 use Rattle.ctr_control.specs.txn_Held.{AreTxns, IsOneOfEight, TxnHeld, TxnsHeld, txn_of}
-use Rattle.ctr_writing.specs.ctr_session_world.Ready.{is_asking}
+use Rattle.ctr_control.specs.ctr_session_world.Ready.{is_asking}
 use Rattle.ctr_exec.specs.declared.acting.Acted.{Acted}
 use Rattle.ctr_exec.specs.declared.acting.Acted.TheVariants as acted
 use Rattle.ctr_exec.specs.declared.runners.Runner.{Runner}

@@ -8,8 +8,8 @@ use Rattle.ctr_types.specs.declared.statement.Line.{Line}
 use Rattle.ctr_meta.specs.Kept.{TablesKept}
 use Rattle.ctr_control.specs.txn_Held.{TxnHeld, TxnsHeld}
 use Rattle.ctr_control.specs.txn_Rooms.{item_kept, HasItemRoom}
-use Rattle.ctr_writing.specs.ctr_session_world.Ready.{is_asking}
-use Rattle.ctr_writing.specs.Tables.{HasFittingColumns}
+use Rattle.ctr_control.specs.ctr_session_world.Ready.{is_asking}
+use Rattle.ctr_control.specs.ctr_writing.Tables.{HasFittingColumns}
 use Rattle.ctr_exec.specs.declared.runners.Stage.{Stage}
 use Rattle.ctr_exec.specs.declared.runners.Stage.TheVariants as stage
 use Rattle.ctr_exec.specs.declared.sessions.Sessions.{Sessions}

@@ -14,8 +14,8 @@ use Rattle.ctr_control.specs.kept_Turns.{Start, state_now}
 use Rattle.ctr_control.specs.kept_Walk.{Mind}
 use Rattle.ctr_control.specs.txn_Held.{TxnsHeld}
 use Rattle.ctr_control.specs.txn_Rooms.{HasItemRoom}
-use Rattle.ctr_writing.specs.ctr_session_world.World.{InWorld, names_in}
-use Rattle.ctr_writing.specs.ctr_session_world.Ready.{StandOver}
+use Rattle.ctr_control.specs.ctr_session_world.World.{InWorld, names_in}
+use Rattle.ctr_control.specs.ctr_session_world.Ready.{StandOver}
 use Rattle.ctr_exec.specs.declared.runners.Runner.{Runner}
 use Rattle.ctr_exec.specs.declared.runners.Stage.TheVariants as stage
 use Rattle.ctr_exec.specs.declared.sessions.Sessions.{Sessions}

@@ -15,5 +15,5 @@ pub mod Released
 pub mod Ordered
 pub mod Fewer
 pub use Rattle.ctr_control.proofs as ctr_control
-pub use Rattle.ctr_writing.proofs as ctr_writing
-pub use Rattle.ctr_writing.proofs.ctr_session_world as ctr_session_world
+pub use Rattle.ctr_control.proofs.ctr_writing as ctr_writing
+pub use Rattle.ctr_control.proofs.ctr_session_world as ctr_session_world

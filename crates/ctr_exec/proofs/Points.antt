@@ -20,7 +20,7 @@ use Rattle.ctr_model.specs.State.{transaction_of}
 use Rattle.ctr_model.specs.Tape.{acts_of, statement_of, progress_of, goes_on, advanced, Comes, passed_by, passed, final, Legal}
 use Rattle.ctr_model.proofs.Sessions.{find-put-other, find-put-same, find-without-other, find-without-same}
 use Rattle.ctr_versions.proofs.Keys.{some_is}
-use Rattle.ctr_writing.specs.ctr_looks.Selecting.{IsSelect}
+use Rattle.ctr_control.specs.ctr_writing.ctr_looks.Selecting.{IsSelect}
 use Rattle.ctr_exec.specs.Acting.{IsActAt, ends_statement}
 
 -- ---- the last entry of a legal tape

@@ -10,8 +10,8 @@ use Rattle.ctr_model.specs.Reply.{without_name}
 use Rattle.ctr_model.specs.State.{has_name, same_name}
 use Rattle.ctr_model.specs.Tape.{statement_of}
 use Rattle.ctr_control.specs.txn_Held.{IsOneOfEight, txn_of}
-use Rattle.ctr_writing.specs.ctr_session_world.Ready.{is_asking}
-use Rattle.ctr_writing.specs.Tables.{HasFittingColumns}
+use Rattle.ctr_control.specs.ctr_session_world.Ready.{is_asking}
+use Rattle.ctr_control.specs.ctr_writing.Tables.{HasFittingColumns}
 use Rattle.ctr_exec.specs.declared.runners.Stage.TheVariants as stage
 use Rattle.ctr_exec.specs.declared.sessions.Sessions.{Sessions}
 use Rattle.ctr_exec.specs.Acting.{MayAct}

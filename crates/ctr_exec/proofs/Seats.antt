@@ -14,15 +14,15 @@ use Rattle.ctr_versions.proofs.Keys.{known, some_is}
 use Rattle.ctr_control.specs.txn_Asked.{Asked}
 use Rattle.ctr_control.specs.txn_Held.{TxnHeld, TxnsHeld, IsOneOfEight, txn_of}
 use Rattle.ctr_control.specs.txn_Steps.{AnswersNext}
-use Rattle.ctr_writing.specs.ctr_looks.ctr_extend.Ways.{IsCountedWay}
-use Rattle.ctr_writing.specs.ctr_looks.ctr_extend.declared.ways.OnWay.{OnWay}
-use Rattle.ctr_writing.specs.ctr_looks.ctr_extend.declared.ways.OnWay.TheVariants.{Wanted, Taken, Made}
-use Rattle.ctr_writing.specs.ctr_looks.ctr_write.declared.stages.Stage.{Stage as WriteStage}
-use Rattle.ctr_writing.specs.ctr_looks.ctr_write.declared.stages.Stage.TheVariants.{Looking, Extending, Kept}
-use Rattle.ctr_writing.specs.ctr_looks.ctr_write.Stages.{IsCountedStage}
-use Rattle.ctr_writing.specs.ctr_session_world.Ready.{is_asking}
-use Rattle.ctr_writing.specs.Rows.{MayGoOn}
-use Rattle.ctr_writing.specs.Tables.{HasFittingColumns}
+use Rattle.ctr_control.specs.ctr_writing.ctr_looks.ctr_extend.Ways.{IsCountedWay}
+use Rattle.ctr_control.specs.ctr_writing.ctr_looks.ctr_extend.declared.ways.OnWay.{OnWay}
+use Rattle.ctr_control.specs.ctr_writing.ctr_looks.ctr_extend.declared.ways.OnWay.TheVariants.{Wanted, Taken, Made}
+use Rattle.ctr_control.specs.ctr_writing.ctr_looks.ctr_write.declared.stages.Stage.{Stage as WriteStage}
+use Rattle.ctr_control.specs.ctr_writing.ctr_looks.ctr_write.declared.stages.Stage.TheVariants.{Looking, Extending, Kept}
+use Rattle.ctr_control.specs.ctr_writing.ctr_looks.ctr_write.Stages.{IsCountedStage}
+use Rattle.ctr_control.specs.ctr_session_world.Ready.{is_asking}
+use Rattle.ctr_control.specs.ctr_writing.Rows.{MayGoOn}
+use Rattle.ctr_control.specs.ctr_writing.Tables.{HasFittingColumns}
 use Rattle.ctr_exec.specs.declared.acting.Acted.{Acted}
 use Rattle.ctr_exec.specs.declared.acting.Acted.TheVariants as acted
 use Rattle.ctr_exec.specs.declared.runners.Runner.{Runner}

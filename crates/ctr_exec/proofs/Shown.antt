@@ -14,13 +14,13 @@ use Rattle.ctr_legal.proofs.Tapes.{final_append}
 use Rattle.ctr_actions.specs.Facts.{Fact}
 use Rattle.ctr_control.specs.kept_Turns.{Start, point_now, start_point, state_now}
 use Rattle.ctr_control.specs.kept_Walk.{Mind}
-use Rattle.ctr_writing.specs.ctr_looks.Locking.{IsCountedTable}
-use Rattle.ctr_writing.specs.ctr_session_world.Told.{CountsOnTables, IsIdleBy, IsIdleIn}
-use Rattle.ctr_writing.specs.ctr_looks.ctr_write.declared.stages.Stage.{Stage as WriteStage}
-use Rattle.ctr_writing.specs.ctr_looks.ctr_wishes.declared.making.Prepared.{Prepared}
-use Rattle.ctr_writing.specs.ctr_looks.declared.tables.TableWrite.{TableWrite}
-use Rattle.ctr_writing.specs.Rows.{IsAtRow}
-use Rattle.ctr_writing.specs.Tables.{IsAtTableWrite}
+use Rattle.ctr_control.specs.ctr_writing.ctr_looks.Locking.{IsCountedTable}
+use Rattle.ctr_control.specs.ctr_session_world.Told.{CountsOnTables, IsIdleBy, IsIdleIn}
+use Rattle.ctr_control.specs.ctr_writing.ctr_looks.ctr_write.declared.stages.Stage.{Stage as WriteStage}
+use Rattle.ctr_control.specs.ctr_writing.ctr_looks.ctr_wishes.declared.making.Prepared.{Prepared}
+use Rattle.ctr_control.specs.ctr_writing.ctr_looks.declared.tables.TableWrite.{TableWrite}
+use Rattle.ctr_control.specs.ctr_writing.Rows.{IsAtRow}
+use Rattle.ctr_control.specs.ctr_writing.Tables.{IsAtTableWrite}
 use Rattle.ctr_exec.specs.declared.runners.Runner.{Runner}
 use Rattle.ctr_exec.specs.declared.runners.Stage.{Stage}
 use Rattle.ctr_exec.specs.declared.runners.Stage.TheVariants as stage

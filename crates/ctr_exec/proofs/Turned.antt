@@ -20,7 +20,7 @@ use Rattle.ctr_control.specs.kept_Turns.{Start, point_now, state_now}
 use Rattle.ctr_control.specs.kept_Walk.{Mind}
 use Rattle.ctr_control.specs.txn_Held.{TxnsHeld, IsOneOfEight, number_drawn}
 use Rattle.ctr_control.specs.ctr_rollback.declared.rolling.Rolled.TheVariants.{Undone, Back}
-use Rattle.ctr_writing.specs.ctr_session_world.Told.{IsNextOf, IsTold, IsKeptOn}
+use Rattle.ctr_control.specs.ctr_session_world.Told.{IsNextOf, IsTold, IsKeptOn}
 use Rattle.ctr_exec.specs.declared.acting.Acted.{Acted}
 use Rattle.ctr_exec.specs.declared.acting.Acted.TheVariants as acted
 use Rattle.ctr_exec.specs.declared.runners.Runner.{Runner}

@@ -18,14 +18,14 @@ use Rattle.ctr_control.specs.kept_Walk.{Mind}
 use Rattle.ctr_control.specs.txn_Held.{TxnsHeld, txn_of}
 use Rattle.ctr_control.specs.ctr_rollback.declared.rolling.Rolled.TheVariants.{Undone, Back}
 use Rattle.ctr_control.specs.ctr_rollback.Rolling.{RollsTo}
-use Rattle.ctr_writing.specs.ctr_looks.Granting.{HasItem}
-use Rattle.ctr_writing.specs.ctr_looks.Locking.{IsWriteOf}
-use Rattle.ctr_writing.specs.ctr_session_world.World.{SessionsHeld}
-use Rattle.ctr_writing.specs.ctr_session_world.Told.{IsIdleIn, IsNextOf, IsTold, IsKeptOn}
-use Rattle.ctr_writing.specs.ctr_session_world.Ready.{LeavesReady, StaysUnasked, is_asking}
-use Rattle.ctr_writing.specs.Rows.{IsAtRow, MayGoOn, WentOn}
-use Rattle.ctr_writing.specs.Tables.{IsAtTableWrite}
-use Rattle.ctr_writing.specs.Wants.{HasRoomCause}
+use Rattle.ctr_control.specs.ctr_writing.ctr_looks.Granting.{HasItem}
+use Rattle.ctr_control.specs.ctr_writing.ctr_looks.Locking.{IsWriteOf}
+use Rattle.ctr_control.specs.ctr_session_world.World.{SessionsHeld}
+use Rattle.ctr_control.specs.ctr_session_world.Told.{IsIdleIn, IsNextOf, IsTold, IsKeptOn}
+use Rattle.ctr_control.specs.ctr_session_world.Ready.{LeavesReady, StaysUnasked, is_asking}
+use Rattle.ctr_control.specs.ctr_writing.Rows.{IsAtRow, MayGoOn, WentOn}
+use Rattle.ctr_control.specs.ctr_writing.Tables.{IsAtTableWrite}
+use Rattle.ctr_control.specs.ctr_writing.Wants.{HasRoomCause}
 use Rattle.ctr_exec.specs.declared.acting.Acted.{Acted}
 use Rattle.ctr_exec.specs.declared.acting.Acted.TheVariants as acted
 use Rattle.ctr_exec.specs.declared.runners.Stage.{Stage}

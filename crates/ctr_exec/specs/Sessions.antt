@@ -26,10 +26,10 @@ use Rattle.ctr_control.specs.txn_Rooms.{HasItemRoom}
 use Rattle.ctr_control.specs.ctr_rollback.declared.rolling.Rolled.{Rolled}
 use Rattle.ctr_control.specs.ctr_rollback.declared.rolling.Rolled.TheVariants.{Undone, Back}
 use Rattle.ctr_control.specs.ctr_rollback.Rolling.{RollsTo}
-use Rattle.ctr_writing.specs.ctr_session_world.World.{SessionsHeld, InWorld, NamesStay}
-use Rattle.ctr_writing.specs.ctr_session_world.Ready.{StandOver, is_asking}
-use Rattle.ctr_writing.specs.Rows.{WentOn}
-use Rattle.ctr_writing.specs.Tables.{HasFittingColumns}
+use Rattle.ctr_control.specs.ctr_session_world.World.{SessionsHeld, InWorld, NamesStay}
+use Rattle.ctr_control.specs.ctr_session_world.Ready.{StandOver, is_asking}
+use Rattle.ctr_control.specs.ctr_writing.Rows.{WentOn}
+use Rattle.ctr_control.specs.ctr_writing.Tables.{HasFittingColumns}
 use Rattle.ctr_exec.specs.declared.acting.Acted.{Acted}
 use Rattle.ctr_exec.specs.declared.acting.Acted.TheVariants as acted
 use Rattle.ctr_exec.specs.declared.runners.Runner.{Runner}

@@ -6,26 +6,28 @@ ghost use Rattle.ctr_base.specs.Base.{WhereSound};
 ghost use Rattle.ctr_control.specs.kept_Turns.{Start, state_now};
 ghost use Rattle.ctr_locks.specs.Held.{LocksOfSession};
 ghost use Rattle.ctr_control.specs.txn_Held.{IsWriting, number_drawn};
-ghost use Rattle.ctr_writing.specs.ctr_session_world.Ready.{MayTurn, LeavesDisk};
-ghost use Rattle.ctr_writing.specs.ctr_session_world.Told.{IsIdleIn, IsNextOf};
-ghost use Rattle.ctr_writing.specs.ctr_looks.Selecting.{IsSelect};
-ghost use Rattle.ctr_writing.specs.Tables.{HasFittingColumns};
+ghost use Rattle.ctr_control.specs.ctr_session_world.Ready.{MayTurn, LeavesDisk};
+ghost use Rattle.ctr_control.specs.ctr_session_world.Told.{IsIdleIn, IsNextOf};
+ghost use Rattle.ctr_control.specs.ctr_writing.ctr_looks.Selecting.{IsSelect};
+ghost use Rattle.ctr_control.specs.ctr_writing.Tables.{HasFittingColumns};
 ghost use Rattle.ctr_exec.specs.declared.runners.Stage.TheVariants as stages;
 ghost use Rattle.ctr_exec.specs.Runners.{made_at};
 ghost use Rattle.ctr_exec.specs.Acting.{number_told, MayAct, LeavesAct, LeavesSessions, IsMidway, RollsAct, TurnOfAct};
 
 use crate::runners::Stage;
 use ctr_base::Origin;
+use ctr_control::session_world::a_session_is_idle_behind_a_reply;
+use ctr_control::writing::looks::wishes::Prepared;
+use ctr_control::writing::looks::{
+    Locked, TableLocked, TableWrite, lock_row, lock_table, read, writes,
+};
+use ctr_control::writing::{Wrote, write_row, write_table};
 use ctr_control::{Txns, a_writer_may_roll_back, ask, begin, roll_back};
 use ctr_disk::{Disk, StoreFault};
 use ctr_locks::KeyLocks;
 use ctr_store::Store;
 use ctr_tally::Steps;
 use ctr_types::{Act, List, Name, Reply, Statement};
-use ctr_writing::looks::wishes::Prepared;
-use ctr_writing::looks::{Locked, TableLocked, TableWrite, lock_row, lock_table, read, writes};
-use ctr_writing::session_world::a_session_is_idle_behind_a_reply;
-use ctr_writing::{Wrote, write_row, write_table};
 use std::alloc::Global;
 use std::sync::ledger::Ledger;
 

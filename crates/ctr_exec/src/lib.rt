@@ -9,8 +9,7 @@ mod sessions;
 
 pub use acting::{Acted, act};
 pub use ctr_control as control;
-pub use ctr_writing as writing;
-pub use ctr_writing::session_world;
+pub use ctr_control::{session_world, writing};
 pub use laws::a_script_begins_in_a_world;
 pub use runners::{Runner, Stage};
 pub use sessions::Sessions;

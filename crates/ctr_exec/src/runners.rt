@@ -3,9 +3,9 @@ ghost use Rattle.std.specs.Prelude.{◌≡◌, ◌==◌, ◌++◌, ◌∷◌, []
 ghost use Rattle.std.specs.List.{AllByRecursion};
 ghost use Rattle.ctr_exec.specs.Runners.{places_of, IsUnbegun, IsRunnerOf, AreRunners};
 
+use ctr_control::writing::looks::wishes::Prepared;
+use ctr_control::writing::looks::{TableWrite, writes};
 use ctr_types::{Line, List, OutOfMemory};
-use ctr_writing::looks::wishes::Prepared;
-use ctr_writing::looks::{TableWrite, writes};
 use std::alloc::Global;
 
 /// What a session is in the middle of, between two of its turns.

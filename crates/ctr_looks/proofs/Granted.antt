@@ -30,7 +30,7 @@ use Rattle.ctr_area.specs.Areas.{Title}
 use Rattle.ctr_area.specs.Sound.{IsAmong}
 use Rattle.ctr_record_effects.specs.States.{area_in}
 use Rattle.ctr_session_world.specs.actions_Facts.{Fact, HasBlank, HasTable, HoldsFact, IsOpen, HasNoPageBut}
-use Rattle.ctr_wishes.specs.actions_Sites.{site_of}
+use Rattle.ctr_asking.specs.ctr_wishes.actions_Sites.{site_of}
 use Rattle.ctr_store.specs.Store.{View}
 use Rattle.ctr_session_world.proofs.ctr_told.ctr_extend.Carrying.{live_state}
 use Rattle.ctr_locks.specs.Held.{LocksOfSession, held_by_session, locks_key, session_locks, session_uses, uses_name}

@@ -4,7 +4,7 @@ use Rattle.std.proofs.lemmas.Bool.{false≢true}
 use Rattle.ctr_disk.specs.declared.disk.Disk.{Ghosts}
 use Rattle.ctr_record_effects.specs.States.{area_in}
 use Rattle.ctr_session_world.specs.actions_Facts.{HasTable}
-use Rattle.ctr_wishes.specs.actions_Sites.{site_of}
+use Rattle.ctr_asking.specs.ctr_wishes.actions_Sites.{site_of}
 use Rattle.ctr_store.specs.Store.{View}
 use Rattle.ctr_session_world.specs.kept_Walk.{Mind}
 use Rattle.ctr_session_world.specs.kept_Turns.{Start, state_now}

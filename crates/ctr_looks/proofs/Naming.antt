@@ -20,7 +20,7 @@ use Rattle.ctr_area.specs.Areas.{Title}
 use Rattle.ctr_area.specs.Sound.{IsAmong}
 use Rattle.ctr_record_effects.specs.States.{area_in}
 use Rattle.ctr_session_world.specs.actions_Facts.{Fact, HasNoPageBut, HasTable, HoldsFact, IsOpen}
-use Rattle.ctr_wishes.specs.actions_Sites.{site_of}
+use Rattle.ctr_asking.specs.ctr_wishes.actions_Sites.{site_of}
 use Rattle.ctr_store.specs.Store.{View}
 use Rattle.ctr_locks.specs.Held.{LocksOfSession, HoldsName, OfSession, held_by_session, locks_key, session_locks}
 use Rattle.ctr_locks.specs.Shows.{HoldShows, ShowsKeyLocks}

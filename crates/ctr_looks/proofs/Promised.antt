@@ -21,8 +21,8 @@ use Rattle.ctr_session_world.specs.actions_Facts.{HasTable}
 use Rattle.ctr_store.specs.Store.{View}
 use Rattle.ctr_session_world.specs.kept_Walk.{Mind}
 use Rattle.ctr_session_world.specs.kept_Turns.{Start, entry_of, state_now}
-use Rattle.ctr_wishes.specs.declared.making.Prepared.{Prepared}
-use Rattle.ctr_wishes.specs.Models.{IsModels}
+use Rattle.ctr_asking.specs.ctr_wishes.declared.making.Prepared.{Prepared}
+use Rattle.ctr_asking.specs.ctr_wishes.Models.{IsModels}
 use Rattle.ctr_looks.specs.declared.taking.RowAt.{RowAt}
 use Rattle.ctr_session_world.specs.World.{SessionsHeld}
 use Rattle.ctr_session_world.specs.Told.{IsNextOf}

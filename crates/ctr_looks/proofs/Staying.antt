@@ -8,7 +8,7 @@ use Rattle.ctr_redo.specs.States.{State as Stored}
 use Rattle.ctr_record_effects.specs.States.{area_in}
 use Rattle.ctr_names.specs.Search.{IsEntryFound}
 use Rattle.ctr_session_world.specs.actions_Facts.{Fact}
-use Rattle.ctr_wishes.specs.actions_Sites.{site_of}
+use Rattle.ctr_asking.specs.ctr_wishes.actions_Sites.{site_of}
 use Rattle.ctr_versions.specs.Engine.{SessionHeld}
 use Rattle.ctr_store.specs.Store.{View}
 use Rattle.ctr_locks.specs.Shows.{IsOnlyEntry}

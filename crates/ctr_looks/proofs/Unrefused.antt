@@ -17,7 +17,7 @@ use Rattle.ctr_model.specs.Tape.{Allowed, IsInTurn}
 use Rattle.ctr_versions.specs.Engine.{IsCalm}
 use Rattle.ctr_versions.proofs.Keys.{known}
 use Rattle.ctr_legal.specs.Ready.{IsReady}
-use Rattle.ctr_wishes.specs.actions_Sites.{Site, site_of}
+use Rattle.ctr_asking.specs.ctr_wishes.actions_Sites.{Site, site_of}
 use Rattle.ctr_store.specs.Store.{View}
 use Rattle.ctr_session_world.specs.kept_Turns.{Start, InTransaction, KeepsRun, MayCome, Telling, state_now}
 use Rattle.ctr_session_world.specs.kept_Walk.{Mind}

@@ -11,7 +11,7 @@ use Rattle.ctr_model.specs.Tape.{Allowed, acts_of}
 use Rattle.ctr_area.specs.Images.{is_live}
 use Rattle.ctr_record_effects.specs.States.{area_in}
 use Rattle.ctr_names.specs.Search.{IsEntryFound}
-use Rattle.ctr_wishes.specs.actions_Sites.{site_of}
+use Rattle.ctr_asking.specs.ctr_wishes.actions_Sites.{site_of}
 use Rattle.ctr_store.specs.Store.{View}
 use Rattle.ctr_session_world.specs.kept_Turns.{Start, state_now}
 use Rattle.ctr_locks.specs.Shows.{IsOnlyEntry}

@@ -14,7 +14,7 @@ use Rattle.ctr_area.specs.Areas.{Title}
 use Rattle.ctr_area.specs.Images.{is_live}
 use Rattle.ctr_area.specs.Sound.{IsAmong}
 use Rattle.ctr_record_effects.specs.States.{area_in}
-use Rattle.ctr_wishes.specs.actions_Actions.{Begins}
+use Rattle.ctr_asking.specs.ctr_wishes.actions_Actions.{Begins}
 use Rattle.ctr_session_world.specs.actions_Facts.{Fact, HasTable}
 use Rattle.ctr_store.specs.Store.{View}
 use Rattle.ctr_session_world.specs.kept_Turns.{Start, InTransaction, state_now}

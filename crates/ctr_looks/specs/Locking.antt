@@ -12,12 +12,12 @@ use Rattle.ctr_model.specs.State.{has_name, transaction_of, view}
 use Rattle.ctr_area.specs.Areas.{Title}
 use Rattle.ctr_area.specs.Sound.{IsAmong}
 use Rattle.ctr_session_world.specs.actions_Facts.{Fact, HasTable}
-use Rattle.ctr_wishes.specs.chain_ReadRefusal.{ReadRefusal}
-use Rattle.ctr_wishes.specs.chain_ReadRefusal.TheVariants as unread
+use Rattle.ctr_asking.specs.ctr_wishes.chain_ReadRefusal.{ReadRefusal}
+use Rattle.ctr_asking.specs.ctr_wishes.chain_ReadRefusal.TheVariants as unread
 use Rattle.ctr_session_world.specs.kept_Walk.{Mind}
 use Rattle.ctr_session_world.specs.kept_Turns.{Start, state_now}
-use Rattle.ctr_wishes.specs.declared.making.Prepared.{Prepared}
-use Rattle.ctr_wishes.specs.Models.{IsModels}
+use Rattle.ctr_asking.specs.ctr_wishes.declared.making.Prepared.{Prepared}
+use Rattle.ctr_asking.specs.ctr_wishes.Models.{IsModels}
 use Rattle.ctr_session_world.specs.txn_Held.{TxnsHeld}
 use Rattle.ctr_looks.specs.Granting.{HasItem}
 use Rattle.ctr_looks.specs.declared.locking.Locked.{Locked}

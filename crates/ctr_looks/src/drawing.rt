@@ -10,6 +10,7 @@ ghost use Rattle.ctr_asking.specs.Asking.{IsInside};
 ghost use Rattle.ctr_session_world.specs.Ready.{LeavesOver, StandOver, LeavesDisk};
 ghost use Rattle.ctr_looks.specs.Granting.{DrawsNext, HasNumber, HasItem};
 
+use ctr_asking::wishes::an_action_meets_its_needs;
 use ctr_base::Origin;
 use ctr_disk::{Disk, StoreFault};
 use ctr_record_laws::pages_are_in_bounds;
@@ -17,7 +18,6 @@ use ctr_session_world::{
     Txns, a_record_acts, records_without_bytes_lie_as_their_actions, the_run_is_of_the_sessions,
 };
 use ctr_store::Store;
-use ctr_wishes::an_action_meets_its_needs;
 
 // Of a session that has none.
 fn draw_next<D: Disk, O: Origin>(

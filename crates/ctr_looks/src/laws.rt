@@ -6,7 +6,7 @@ ghost use Rattle.ctr_types.specs.declared.tape.Refusal.{Refusal as Refuses};
 ghost use Rattle.ctr_types.specs.declared.tape.Reply.TheVariants as reply;
 ghost use Rattle.ctr_model.specs.Tape.{Allowed};
 ghost use Rattle.ctr_versions.specs.Engine.{IsCalm};
-ghost use Rattle.ctr_wishes.specs.actions_Sites.{site_of};
+ghost use Rattle.ctr_asking.specs.ctr_wishes.actions_Sites.{site_of};
 ghost use Rattle.ctr_store.specs.Store.{View};
 ghost use Rattle.ctr_session_world.specs.kept_Walk.{Mind};
 ghost use Rattle.ctr_session_world.specs.kept_Turns.{Start, InTransaction, state_now};

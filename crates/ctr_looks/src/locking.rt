@@ -15,7 +15,7 @@ ghost use Rattle.ctr_session_world.specs.Told.{IsNextOf, IsTold, IsIdleIn};
 ghost use Rattle.ctr_looks.specs.Granting.{IsFree};
 ghost use Rattle.ctr_looks.specs.Asked.{StandsAt};
 ghost use Rattle.ctr_looks.specs.Granting.{IsRowOf};
-ghost use Rattle.ctr_wishes.specs.ctr_reading.Reading.{IsDiskOrMemory};
+ghost use Rattle.ctr_asking.specs.ctr_wishes.ctr_reading.Reading.{IsDiskOrMemory};
 ghost use Rattle.ctr_looks.specs.Locking.{IsReadyLocked, IsReadyBehind, locked_reply, locked_unread};
 
 use crate::granting::grant_row;
@@ -23,6 +23,11 @@ use crate::grants::a_look_that_wants_memory_is_told;
 use crate::laws::a_refused_look_is_told;
 use crate::refusing::ask_act;
 use crate::taking::RowAt;
+use ctr_asking::wishes::reading::Sight;
+use ctr_asking::wishes::{
+    Prepared, ReadRefusal, prepare, what_is_prepared_is_the_models,
+    what_is_prepared_stays_the_models,
+};
 use ctr_asking::{Answer, Asker, me_of};
 use ctr_base::Origin;
 use ctr_disk::{Disk, StoreFault};
@@ -31,11 +36,6 @@ use ctr_session_world::{Txns, pages_that_are_read_keep_a_world, room_is_still_th
 use ctr_statement::{key_written, table_of};
 use ctr_store::Store;
 use ctr_types::{Act, List, Name, Refusal, Statement};
-use ctr_wishes::reading::Sight;
-use ctr_wishes::{
-    Prepared, ReadRefusal, prepare, what_is_prepared_is_the_models,
-    what_is_prepared_stays_the_models,
-};
 use std::alloc::Global;
 
 /// What a session is answered that locks a row.

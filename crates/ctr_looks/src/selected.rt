@@ -8,13 +8,13 @@ ghost use Rattle.ctr_types.specs.declared.tape.Reply.TheVariants as reply;
 ghost use Rattle.ctr_types.specs.declared.value.Rows.{Rows};
 ghost use Rattle.ctr_record_effects.specs.States.{area_in};
 ghost use Rattle.ctr_session_world.specs.actions_Facts.{Fact};
-ghost use Rattle.ctr_wishes.specs.actions_Sites.{site_of};
+ghost use Rattle.ctr_asking.specs.ctr_wishes.actions_Sites.{site_of};
 ghost use Rattle.ctr_store.specs.Store.{View};
 ghost use Rattle.ctr_session_world.specs.kept_Turns.{Start};
 ghost use Rattle.ctr_locks.specs.Held.{LocksOfSession, OfSession, UsesName};
 ghost use Rattle.ctr_session_world.specs.page_turns_Turns.{RestsBehind};
 ghost use Rattle.ctr_session_world.specs.ctr_told.Turning.{IsIdle};
-ghost use Rattle.ctr_wishes.specs.ctr_reading.Reading.{AreShown};
+ghost use Rattle.ctr_asking.specs.ctr_wishes.ctr_reading.Reading.{AreShown};
 ghost use Rattle.ctr_asking.specs.Asking.{sees_for};
 ghost use Rattle.ctr_session_world.specs.World.{SessionsHeld};
 ghost use Rattle.ctr_session_world.specs.Told.{IsNextOf, IsTold};
@@ -22,10 +22,10 @@ ghost use Rattle.ctr_looks.specs.Granting.{IsFree, KeepsSessions};
 ghost use Rattle.ctr_looks.specs.Asked.{StandsAt};
 
 use crate::grants::room_shows_the_same;
+use ctr_asking::wishes::reading::rows_are_those_of_the_view;
 use ctr_disk::Disk;
 use ctr_locks::key_locks_show;
 use ctr_session_world::told::rows_that_are_read_are_told;
-use ctr_wishes::reading::rows_are_those_of_the_view;
 
 /// Rows that the slots of a table show to a session, which has found it and uses it then, are told as they are: they are the model's.
 pub(crate) fn rows_of_a_table_are_told<D: Disk>()

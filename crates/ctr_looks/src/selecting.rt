@@ -13,7 +13,7 @@ ghost use Rattle.ctr_session_world.specs.actions_Facts.{Fact};
 ghost use Rattle.ctr_session_world.specs.kept_Turns.{Start, state_now};
 ghost use Rattle.ctr_session_world.specs.page_turns_Turns.{RestsBehind};
 ghost use Rattle.ctr_session_world.specs.ctr_told.Turning.{IsIdle};
-ghost use Rattle.ctr_wishes.specs.ctr_reading.Reading.{as_told, sees, AreShown, IsDiskOrMemory};
+ghost use Rattle.ctr_asking.specs.ctr_wishes.ctr_reading.Reading.{as_told, sees, AreShown, IsDiskOrMemory};
 ghost use Rattle.ctr_asking.specs.Asking.{IsInside};
 ghost use Rattle.ctr_session_world.specs.txn_Held.{TxnsHeld};
 ghost use Rattle.ctr_session_world.specs.Ready.{LeavesOver, MayTurn, StandOver, LeavesDisk};
@@ -27,6 +27,8 @@ use crate::laws::a_refused_look_is_told;
 use crate::refusing::ask_act;
 use crate::selected::rows_of_a_table_are_told;
 use crate::taking::take_use;
+use ctr_asking::wishes::ReadRefusal;
+use ctr_asking::wishes::reading::{Sight, row_of_key, rows_of_table};
 use ctr_asking::{Answer, Asker, me_of};
 use ctr_base::Origin;
 use ctr_disk::{Disk, StoreFault};
@@ -34,8 +36,6 @@ use ctr_locks::KeyLocks;
 use ctr_session_world::{Txns, pages_that_are_read_keep_a_world, room_is_still_there};
 use ctr_store::Store;
 use ctr_types::{Act, KeyIs, List, Name, Refusal, Reply, Row, Rows, Statement};
-use ctr_wishes::ReadRefusal;
-use ctr_wishes::reading::{Sight, row_of_key, rows_of_table};
 use std::alloc::Global;
 
 // A row, or none, as rows.

@@ -9,15 +9,15 @@ use Rattle.ctr_model.specs.State.{has_name, transaction_of}
 use Rattle.ctr_versions.proofs.Keys.{known}
 use Rattle.ctr_area.specs.Areas.{Title, Area}
 use Rattle.ctr_area.specs.Sound.{IsAmong}
-use Rattle.ctr_record_effects.specs.States.{area_in}
+use Rattle.ctr_walk.specs.record_effects_States.{area_in}
 use Rattle.ctr_actions.specs.Sites.{Site, site_of}
 use Rattle.ctr_actions.specs.Actions.{Action, Reclaims, Reverts, Trims, Cuts, FreesOlder, MakesDead, Unlinks, UnlinksOlder, FreesEntry, Forgets, Owes, site_after}
 use Rattle.ctr_actions.specs.Cleaning.{IsCleaning}
 use Rattle.ctr_actions.specs.Facts.{HasTable}
 use Rattle.ctr_locks.specs.Held.{held_by_session, session_locks}
 use Rattle.ctr_locks.specs.Shows.{IsTheSame, ShowsKeyLocks}
-use Rattle.ctr_store.specs.Store.{View}
-use Rattle.ctr_page_turns.specs.Acts.{ActsBy}
+use Rattle.ctr_walk.specs.store_Store.{View}
+use Rattle.ctr_cleaner.specs.page_turns_Acts.{ActsBy}
 use Rattle.ctr_exec.specs.ctr_control.kept_Walk.{Mind}
 use Rattle.ctr_exec.specs.ctr_control.kept_Turns.{Start, state_now}
 use Rattle.ctr_exec.specs.ctr_control.stops_World.{KeepsWorld}

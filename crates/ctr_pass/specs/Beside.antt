@@ -2,8 +2,8 @@
 use Rattle.std.specs.Prelude.{◌≡◌, ℕ, ℤ, false, List}
 use Rattle.ctr_actions.specs.Actions.{Action, FreesEntry}
 use Rattle.ctr_locks.specs.Held.{LocksOfSession, session_locks}
-use Rattle.ctr_cursor.specs.declared.position.Position.{Position}
-use Rattle.ctr_cursor.specs.declared.position.Position.TheVariants.{Entry, Slot, Kept, Aborted}
+use Rattle.ctr_cleaner.specs.cursor_Position.{Position}
+use Rattle.ctr_cleaner.specs.cursor_Position.TheVariants.{Entry, Slot, Kept, Aborted}
 
 -- An entry is freed only where no session has a lock in it.
 abbrev pub SparesLocked : List (ℕ × LocksOfSession) → Action → Type 0

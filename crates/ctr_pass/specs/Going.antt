@@ -1,10 +1,10 @@
 -- What a turn of the cleaner did beside sessions, and where.
 use Rattle.std.specs.Prelude.{◌≡◌, ℕ, Bool, true}
-use Rattle.ctr_redo.specs.States.{State}
+use Rattle.ctr_walk.specs.redo_States.{State}
 use Rattle.ctr_actions.specs.Sites.{site_of}
 use Rattle.ctr_cleaner.specs.Turning.{Heeded, TurnsAt}
-use Rattle.ctr_cursor.specs.declared.position.Position.{Position}
-use Rattle.ctr_cursor.specs.Standing.{IsPosition, IsCountedPosition}
+use Rattle.ctr_cleaner.specs.cursor_Position.{Position}
+use Rattle.ctr_cleaner.specs.cursor_Standing.{IsPosition, IsCountedPosition}
 use Rattle.ctr_pass.specs.declared.going.Went.{Went}
 
 -- A turn was taken at a position of the state, and this is what it did there.

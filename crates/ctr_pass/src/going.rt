@@ -1,24 +1,21 @@
 // A turn of the cleaner beside sessions.
 ghost use Rattle.std.specs.Prelude.{◌≡◌, true, false, IfErr, IfOk};
 ghost use Rattle.ctr_disk.specs.declared.fault.StoreFault.TheVariants.{Fault};
-ghost use Rattle.ctr_base.specs.Base.{WhereSound};
-ghost use Rattle.ctr_record_effects.specs.Standing.{IsDatabaseState};
+ghost use Rattle.ctr_walk.specs.base_Base.{WhereSound};
+ghost use Rattle.ctr_walk.specs.record_effects_Standing.{IsDatabaseState};
 ghost use Rattle.ctr_actions.specs.Sites.{site_of};
 ghost use Rattle.ctr_walk.specs.Damage.{ReadsPages};
-ghost use Rattle.ctr_page_turns.specs.Turns.{Turns};
-ghost use Rattle.ctr_cursor.specs.Standing.{IsPosition, IsCountedPosition};
+ghost use Rattle.ctr_cleaner.specs.page_turns_Turns.{Turns};
+ghost use Rattle.ctr_cleaner.specs.cursor_Standing.{IsPosition, IsCountedPosition};
 ghost use Rattle.ctr_cleaner.specs.Turning.{heeding, HasRoomFor, LeavesCounts};
 ghost use Rattle.ctr_pass.specs.Beside.{entry_first};
 ghost use Rattle.ctr_pass.specs.Going.{IsFrom, WentAs};
 
-use ctr_base::Origin;
-use ctr_cleaner::{CleanTurn, MayEmpty, turn};
-use ctr_cursor::{Position, is_there};
+use ctr_cleaner::{CleanTurn, MayEmpty, Position, a_turn_goes_on, is_there, turn};
 use ctr_disk::{Disk, StoreFault};
 use ctr_locks::KeyLocks;
-use ctr_page_turns::a_turn_goes_on;
-use ctr_store::Store;
 use ctr_types::Xid;
+use ctr_walk::{Origin, Store};
 
 /// What a turn of the cleaner did, and at which position of its pass.
 #[derive(Clone, Copy, Debug, PartialEq, Eq)]

@@ -8,18 +8,18 @@ ghost use Rattle.ctr_model.specs.State.{transaction_of};
 ghost use Rattle.ctr_model.specs.Tape.{final};
 ghost use Rattle.ctr_actions.specs.Sites.{site_of};
 ghost use Rattle.ctr_actions.specs.Actions.{Action};
-ghost use Rattle.ctr_store.specs.Store.{View};
-ghost use Rattle.ctr_page_turns.specs.Turns.{LogsAtRest};
-ghost use Rattle.ctr_page_turns.specs.Acts.{ActsBy};
+ghost use Rattle.ctr_walk.specs.store_Store.{View};
+ghost use Rattle.ctr_cleaner.specs.page_turns_Turns.{LogsAtRest};
+ghost use Rattle.ctr_cleaner.specs.page_turns_Acts.{ActsBy};
 ghost use Rattle.ctr_exec.specs.ctr_control.kept_Turns.{Start, scene_now};
 ghost use Rattle.ctr_exec.specs.ctr_control.kept_Walk.{Mind};
 ghost use Rattle.ctr_exec.specs.declared.sessions.Sessions.{Sessions as SessionsAt};
 ghost use Rattle.ctr_exec.specs.Sessions.{ShowsSessions};
-ghost use Rattle.ctr_cleaning.specs.Sparing.{MayClean};
+ghost use Rattle.ctr_cleaner.specs.cleaning_Sparing.{MayClean};
 ghost use Rattle.ctr_pass.specs.Beside.{SparesLocked};
 ghost use Rattle.ctr_pass.specs.Passing.{HasLocksOf, some_end};
 
-use ctr_cleaning::a_cleaned_world_is_kept;
+use ctr_cleaner::a_cleaned_world_is_kept;
 use ctr_disk::Disk;
 
 /// What the cleaner may do leaves the sessions of a script in their World: each where it is, with its transaction and its locks, and the tape as it

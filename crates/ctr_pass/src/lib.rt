@@ -7,8 +7,16 @@ mod going;
 mod laws;
 mod pass;
 
-pub use ctr_cleaner::{MayEmpty, a_pass_that_finds_nothing_leaves_it_bare, what_is_found_stays};
-pub use ctr_cursor::{a_pass_goes_from_position_to_position, a_pass_goes_on, a_position_stays};
+pub use ctr_cleaner::{
+    MayEmpty, a_pass_goes_from_position_to_position, a_pass_goes_on,
+    a_pass_that_finds_nothing_leaves_it_bare, a_position_stays, what_is_found_stays,
+};
+pub use ctr_exec::control::{flush, make_room};
+pub use ctr_exec::session_world::{
+    a_turn_that_ends_leaves_a_prefix, pages_that_are_read_keep_a_world,
+};
+pub use ctr_exec::writing::what_a_write_counts_on_stays;
+pub use ctr_exec::{Sessions, a_script_begins_in_a_world};
 pub use going::{Went, clean_from};
 pub use laws::{a_calm_tape_leaves_who_is_inside, the_cleaner_leaves_the_sessions};
 pub use pass::{Pass, Phase, keeps_room};

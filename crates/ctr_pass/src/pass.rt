@@ -2,11 +2,10 @@
 ghost use Rattle.std.specs.Prelude.{◌≡◌, None, Some, drop};
 ghost use Rattle.ctr_pass.specs.Passing.{is_end as ends_one, keeps_room as room_kept, noted as noted_by, pass_behind, pass_on, some_end};
 ghost use Rattle.ctr_pass.specs.declared.pass.Phase.TheVariants.{Calm};
-ghost use Rattle.ctr_cursor.specs.Pass.{start};
+ghost use Rattle.ctr_cleaner.specs.cursor_Pass.{start};
 
 use crate::going::Went;
-use ctr_cleaner::CleanTurn;
-use ctr_cursor::Position;
+use ctr_cleaner::{CleanTurn, Position};
 use ctr_types::{Entry, Reply};
 
 /// How a pass of the cleaner went so far.

@@ -13,3 +13,6 @@ pub use Rattle.ctr_views.proofs.Scanning as views_Scanning
 pub use Rattle.ctr_views.proofs.pvs_Told as pvs_Told
 pub use Rattle.ctr_views.proofs.passed_Pagewise as passed_Pagewise
 pub use Rattle.ctr_undamaged.proofs.Inside as undamaged_Inside
+pub use Rattle.ctr_views.proofs.Looking as views_Looking
+pub use Rattle.ctr_views.proofs.Reading as views_Reading
+pub use Rattle.ctr_views.proofs.catalog_Searched as catalog_Searched

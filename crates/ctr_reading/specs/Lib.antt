@@ -15,3 +15,5 @@ pub use Rattle.ctr_views.specs.pvs_Table as pvs_Table
 pub use Rattle.ctr_undamaged.specs.pvs_Slots as pvs_Slots
 pub use Rattle.ctr_undamaged.specs.chain_Seeking as chain_Seeking
 pub use Rattle.ctr_undamaged.specs.Undamaged as undamaged_Undamaged
+pub use Rattle.ctr_undamaged.specs.heap_Finding as heap_Finding
+pub use Rattle.ctr_undamaged.specs.heap_SlotSought as heap_SlotSought

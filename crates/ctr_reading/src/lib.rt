@@ -15,9 +15,10 @@ mod slots;
 mod table;
 
 pub use ctr_undamaged::{
-    a_catalog_search_meets_no_damage, a_place_of_a_table_fits, a_row_is_read_without_damage,
-    a_version_entry_is_read_without_damage,
+    a_bucket_search_meets_no_damage, a_catalog_search_meets_no_damage, a_place_of_a_table_fits,
+    a_row_is_read_without_damage, a_version_entry_is_read_without_damage, find,
 };
+pub use ctr_views as views;
 pub use ctr_views::{
     ReadRefusal, SchemaRefusal, a_scan_gives_the_table, an_action_meets_its_needs, schema, table_on,
 };

@@ -2,7 +2,7 @@ use Rattle.std.proofs.Common.{◌≡◌, ℕ, List, Option, ◌∙◌, subst}
 use Rattle.std.specs.Prelude.{IfOk, option_and_then}
 use Rattle.ctr_model.specs.Refusals.{first_of, table_refusals}
 use Rattle.ctr_versions.proofs.Keys.{some_is}
-use Rattle.ctr_views.specs.actions_Sites.{site_of}
+use Rattle.ctr_wishes.specs.actions_Sites.{site_of}
 use Rattle.ctr_asking.specs.Asking.{FindsTable, refusal_told}
 use Rattle.ctr_asking.proofs.asking.ask.Goals as goal
 

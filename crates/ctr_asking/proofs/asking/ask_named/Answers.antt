@@ -10,8 +10,8 @@ use Rattle.ctr_model.specs.State.{view}
 use Rattle.ctr_model.specs.Refusals.{first_of, key_locked, key_refusals, name_refusals, presence_refusals, value_refusals}
 use Rattle.ctr_walk.specs.Damage.{damage_told}
 use Rattle.ctr_versions.proofs.Keys.{some_is}
-use Rattle.ctr_views.specs.actions_Sites.{site_of}
-use Rattle.ctr_views.specs.catalog_Finding.{checks_at, entry_seen, EndsEntries}
+use Rattle.ctr_wishes.specs.actions_Sites.{site_of}
+use Rattle.ctr_wishes.specs.ctr_reading.catalog_Finding.{checks_at, entry_seen, EndsEntries}
 use Rattle.ctr_txn.specs.Held.{TxnHeld}
 use Rattle.ctr_asking.specs.declared.asker.Answer.{Answer}
 use Rattle.ctr_asking.specs.declared.asker.Answer.TheVariants.{Refused}

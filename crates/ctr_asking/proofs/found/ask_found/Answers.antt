@@ -3,7 +3,7 @@ use Rattle.std.specs.Prelude.{IfOk, IfSome}
 use Rattle.ctr_model.specs.Database.{table_at}
 use Rattle.ctr_model.specs.State.{view}
 use Rattle.ctr_model.specs.Refusals.{first_of, key_refusals, name_refusals, presence_refusals, value_refusals}
-use Rattle.ctr_views.specs.actions_Sites.{site_of}
+use Rattle.ctr_wishes.specs.actions_Sites.{site_of}
 use Rattle.ctr_asking.specs.declared.asker.Answer.{Answer}
 use Rattle.ctr_asking.specs.declared.asker.Answer.TheVariants.{Free}
 use Rattle.ctr_asking.specs.Asking.{FindsFor, IsOf, refusal_told}

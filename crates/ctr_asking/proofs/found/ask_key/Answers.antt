@@ -4,7 +4,7 @@ use Rattle.std.proofs.lemmas.Int.{to_z-of_z}
 use Rattle.ctr_types.specs.declared.tape.Refusal.{Refusal}
 use Rattle.ctr_types.specs.declared.tape.Refusal.TheVariants as refusal
 use Rattle.ctr_model.specs.Refusals.{locked_by, row_changed_by}
-use Rattle.ctr_views.specs.actions_Sites.{site_of}
+use Rattle.ctr_wishes.specs.actions_Sites.{site_of}
 use Rattle.ctr_snap.specs.Seeing.{SnapshotTaken}
 use Rattle.ctr_txn.specs.Held.{TxnHeld}
 use Rattle.ctr_versions.proofs.Keys.{some_is}

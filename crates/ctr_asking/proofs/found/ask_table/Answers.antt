@@ -8,7 +8,7 @@ use Rattle.ctr_record_effects.specs.Standing.{IsDatabaseState}
 use Rattle.ctr_model.specs.Database.{table_at}
 use Rattle.ctr_model.specs.State.{view}
 use Rattle.ctr_model.specs.Refusals.{first_of, key_refusals, value_refusals}
-use Rattle.ctr_views.specs.actions_Sites.{site_of}
+use Rattle.ctr_wishes.specs.actions_Sites.{site_of}
 use Rattle.ctr_asking.specs.declared.asker.Answer.{Answer}
 use Rattle.ctr_asking.specs.declared.asker.Answer.TheVariants.{Refused}
 use Rattle.ctr_asking.specs.Asking.{Asking, HasPassed, refusal_told}

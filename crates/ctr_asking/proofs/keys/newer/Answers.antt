@@ -6,7 +6,7 @@ use Rattle.ctr_meta.specs.Kept.{TablesKept}
 use Rattle.ctr_area.specs.Images.{is_committed_in}
 use Rattle.ctr_record_effects.specs.States.{pages_in}
 use Rattle.ctr_walk.specs.Damage.{damage_told}
-use Rattle.ctr_undamaged.specs.chain_Seeking.{sought_at, xids_found}
+use Rattle.ctr_wishes.specs.ctr_reading.chain_Seeking.{sought_at, xids_found}
 use Rattle.ctr_asking.specs.Causes.{number_unseen}
 use Rattle.ctr_asking.proofs.Reading.{read_answered, read_failed, undamaged}
 use Rattle.ctr_asking.proofs.keys.newer.Goals as goal

@@ -4,14 +4,14 @@ use Rattle.std.proofs.lemmas.Int.{to_z-of_z}
 use Rattle.ctr_disk.specs.declared.fault.StoreFault.TheVariants.{Fault}
 use Rattle.ctr_page.specs.declared.rows.Place.{Place}
 use Rattle.ctr_page.specs.Places.{bucket_of}
-use Rattle.ctr_undamaged.specs.heap_SlotSought.TheVariants.{Key}
-use Rattle.ctr_undamaged.specs.heap_Finding.{EndsBucket}
+use Rattle.ctr_wishes.specs.ctr_reading.heap_SlotSought.TheVariants.{Key}
+use Rattle.ctr_wishes.specs.ctr_reading.heap_Finding.{EndsBucket}
 use Rattle.ctr_redo.specs.States.{State}
 use Rattle.ctr_area.specs.Sound.{IsUsedSlot}
 use Rattle.ctr_record_effects.specs.States.{pages_in, area_in}
 use Rattle.ctr_record_effects.specs.Standing.{IsDatabaseState}
 use Rattle.ctr_walk.specs.Damage.{damage_told}
-use Rattle.ctr_views.specs.actions_Sites.{site_of}
+use Rattle.ctr_wishes.specs.actions_Sites.{site_of}
 use Rattle.ctr_asking.specs.Causes.{newer_at}
 use Rattle.ctr_asking.proofs.Reading.{read_answered, read_behind, read_failed, undamaged}
 use Rattle.ctr_asking.proofs.Slots.{found_so, newer_here}

@@ -6,7 +6,7 @@ use Rattle.ctr_model.specs.Refusals.{changes_schema, presence_refusals}
 use Rattle.ctr_versions.specs.Chains.{changed_since}
 use Rattle.ctr_versions.specs.Keys.{schema_writes}
 use Rattle.ctr_area.specs.Images.{made_by_entry}
-use Rattle.ctr_views.specs.actions_Sites.{Site}
+use Rattle.ctr_wishes.specs.actions_Sites.{Site}
 use Rattle.ctr_asking.specs.declared.asker.Asker.{Asker}
 use Rattle.ctr_asking.specs.Causes.{presence_refused}
 use Rattle.ctr_asking.specs.Asking.{Asking, FindsFor}

@@ -9,7 +9,7 @@ use Rattle.ctr_versions.specs.Chains.{IsUnwritten}
 use Rattle.ctr_versions.specs.Keys.{row_writes}
 use Rattle.ctr_legal.proofs.Cover.{quiet_key}
 use Rattle.ctr_names.proofs.Entries.{name_of}
-use Rattle.ctr_views.specs.Viewing.{newest_in, number_since}
+use Rattle.ctr_wishes.specs.ctr_views.Viewing.{newest_in, number_since}
 use Rattle.ctr_asking.proofs.Passing.{scene, viewer, firm, idle, quiet, unbusy, unchanged}
 use Rattle.ctr_asking.proofs.Only.{only_entry}
 use Rattle.ctr_asking.proofs.Rows.{newer_is}

@@ -7,7 +7,7 @@ use Rattle.ctr_model.specs.Database.{table_at}
 use Rattle.ctr_model.specs.State.{view}
 use Rattle.ctr_model.specs.Refusals.{busy_by, first_of, name_refusals, presence_refusals, schema_changed_by}
 use Rattle.ctr_versions.proofs.Keys.{some_is}
-use Rattle.ctr_views.specs.actions_Sites.{site_of}
+use Rattle.ctr_wishes.specs.actions_Sites.{site_of}
 use Rattle.ctr_txn.specs.Held.{TxnHeld}
 use Rattle.ctr_asking.specs.Causes.{last_change}
 use Rattle.ctr_asking.proofs.Firsts.{found_first, passed_first, first_of_two, second_of_two}

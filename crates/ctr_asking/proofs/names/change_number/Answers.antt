@@ -2,7 +2,7 @@ use Rattle.std.proofs.Common.{Err, Option, ℕ, ◌∙◌, ap}
 use Rattle.std.specs.Prelude.{option_and_then}
 use Rattle.ctr_record_effects.specs.States.{pages_in, area_in}
 use Rattle.ctr_walk.specs.Damage.{damage_told}
-use Rattle.ctr_views.specs.catalog_Finding.{checks_at, changed_in, EndsEntry}
+use Rattle.ctr_wishes.specs.ctr_reading.catalog_Finding.{checks_at, changed_in, EndsEntry}
 use Rattle.ctr_txn.specs.Numbered.{number_asked}
 use Rattle.ctr_asking.proofs.Reading.{read_answered, read_failed, undamaged}
 use Rattle.ctr_asking.proofs.names.change_number.Goals as goal

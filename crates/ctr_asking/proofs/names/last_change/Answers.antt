@@ -4,7 +4,7 @@ use Rattle.ctr_redo.specs.States.{State}
 use Rattle.ctr_record_effects.specs.Standing.{IsDatabaseState}
 use Rattle.ctr_walk.proofs.Joins.{answers_ok}
 use Rattle.ctr_walk.proofs.PagesRead.{reads_on, still_goes, same_now}
-use Rattle.ctr_views.specs.actions_Sites.{site_of}
+use Rattle.ctr_wishes.specs.actions_Sites.{site_of}
 use Rattle.ctr_asking.specs.Causes.{later, change_number, last_change}
 use Rattle.ctr_asking.proofs.Greatest.{last_zero, last_next}
 use Rattle.ctr_asking.proofs.Reading.{read_on_failed}

@@ -2,7 +2,7 @@ use Rattle.std.proofs.Common.{◌≡◌}
 use Rattle.std.specs.Prelude.{IsTrue}
 use Rattle.ctr_base.specs.Base.{IsSoundImage}
 use Rattle.ctr_walk.proofs.PagesRead.{HasRead}
-use Rattle.ctr_views.specs.actions_Sites.{site_of}
+use Rattle.ctr_wishes.specs.actions_Sites.{site_of}
 use Rattle.ctr_asking.specs.Causes.{last_change}
 use Rattle.ctr_asking.proofs.names.last_change.Given as goal
 

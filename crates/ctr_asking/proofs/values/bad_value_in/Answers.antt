@@ -3,8 +3,8 @@ use Rattle.ctr_page.specs.declared.walk.BadChain.TheVariants.{OnPage}
 use Rattle.ctr_record_effects.specs.States.{pages_in, area_in}
 use Rattle.ctr_walk.specs.Damage.{damage_told}
 use Rattle.ctr_walk.proofs.Damages.{told_ends, told_ok}
-use Rattle.ctr_views.specs.catalog_Columns.{EndsChecked}
-use Rattle.ctr_views.specs.catalog_Finding.{checks_at}
+use Rattle.ctr_wishes.specs.ctr_reading.catalog_Columns.{EndsChecked}
+use Rattle.ctr_wishes.specs.ctr_reading.catalog_Finding.{checks_at}
 use Rattle.ctr_asking.specs.Values.{bad_in}
 use Rattle.ctr_asking.proofs.Told.{checked_undamaged}
 use Rattle.ctr_asking.proofs.values.bad_value_in.Goals as goal

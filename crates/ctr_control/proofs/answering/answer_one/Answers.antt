@@ -1,10 +1,10 @@
 use Rattle.std.proofs.Common.{refl, sym, ap, subst}
 use Rattle.std.specs.Prelude.{is_some}
 use Rattle.std.proofs.lemmas.Bool.{false≢true}
-use Rattle.ctr_session_world.specs.txn_Held.{TxnsHeld}
-use Rattle.ctr_session_world.proofs.Ready.{stands_with}
-use Rattle.ctr_session_world.proofs.Resting.{rests_here}
-use Rattle.ctr_session_world.specs.Ready.{StandOver}
+use Rattle.ctr_writing.specs.ctr_session_world.txn_Held.{TxnsHeld}
+use Rattle.ctr_writing.proofs.ctr_session_world.Ready.{stands_with}
+use Rattle.ctr_writing.proofs.ctr_session_world.Resting.{rests_here}
+use Rattle.ctr_writing.specs.ctr_session_world.Ready.{StandOver}
 use Rattle.ctr_control.proofs.Answered.{answer_comes, answered_told, by_list, e, seat}
 use Rattle.ctr_control.proofs.answering.answer_one.Goals as goal
 

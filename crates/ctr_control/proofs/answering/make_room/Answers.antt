@@ -1,6 +1,6 @@
-use Rattle.ctr_session_world.specs.page_turns_Turns.{RestsBehind}
-use Rattle.ctr_session_world.proofs.rollback_Records.{three_ok}
-use Rattle.ctr_session_world.proofs.Resting.{world_rests}
+use Rattle.ctr_writing.specs.ctr_session_world.page_turns_Turns.{RestsBehind}
+use Rattle.ctr_writing.proofs.ctr_session_world.rollback_Records.{three_ok}
+use Rattle.ctr_writing.proofs.ctr_session_world.Resting.{world_rests}
 use Rattle.ctr_control.proofs.answering.make_room.Goals as goal
 
 pub returns-clause-kept : goal.returns-clause-kept

@@ -3,15 +3,15 @@ use Rattle.ctr_types.specs.declared.statement.Statement.TheVariants as st
 use Rattle.ctr_types.specs.declared.tape.Act.TheVariants as act
 use Rattle.ctr_types.specs.declared.tape.Refusal.TheVariants as refusal
 use Rattle.ctr_types.specs.declared.tape.Reply.TheVariants as reply
-use Rattle.ctr_session_world.specs.kept_Turns.{state_now}
-use Rattle.ctr_session_world.specs.txn_Held.{TxnsHeld}
-use Rattle.ctr_session_world.specs.txn_Steps.{txn_begun}
-use Rattle.ctr_session_world.specs.Ready.{LeavesReady, StaysUnasked}
-use Rattle.ctr_session_world.specs.World.{SessionsHeld}
-use Rattle.ctr_session_world.specs.Told.{IsTold}
-use Rattle.ctr_session_world.proofs.Standing.{comes, none_there, seat_of, some_of}
-use Rattle.ctr_session_world.proofs.Ready.{others_set, ready_as_was, ready_here, stands_with, unasked_set}
-use Rattle.ctr_session_world.proofs.Resting.{rests_here, refused_told}
+use Rattle.ctr_writing.specs.ctr_session_world.kept_Turns.{state_now}
+use Rattle.ctr_writing.specs.ctr_session_world.txn_Held.{TxnsHeld}
+use Rattle.ctr_writing.specs.ctr_session_world.txn_Steps.{txn_begun}
+use Rattle.ctr_writing.specs.ctr_session_world.Ready.{LeavesReady, StaysUnasked}
+use Rattle.ctr_writing.specs.ctr_session_world.World.{SessionsHeld}
+use Rattle.ctr_writing.specs.ctr_session_world.Told.{IsTold}
+use Rattle.ctr_writing.proofs.ctr_session_world.Standing.{comes, none_there, seat_of, some_of}
+use Rattle.ctr_writing.proofs.ctr_session_world.Ready.{others_set, ready_as_was, ready_here, stands_with, unasked_set}
+use Rattle.ctr_writing.proofs.ctr_session_world.Resting.{rests_here, refused_told}
 use Rattle.ctr_control.proofs.Begun.{refused_inside, outside, is_answered, begins, wants, begun_told}
 use Rattle.ctr_control.proofs.beginning.begin.Goals as goal
 

@@ -12,25 +12,25 @@ use Rattle.ctr_area.specs.Sound.{IsAmong}
 use Rattle.ctr_actions.specs.Actions.{Commits, Owes}
 use Rattle.ctr_actions.specs.Facts.{Fact}
 use Rattle.ctr_actions.specs.Sites.{site_of}
-use Rattle.ctr_session_world.specs.page_turns_Acts.{ActsBy}
+use Rattle.ctr_writing.specs.ctr_session_world.page_turns_Acts.{ActsBy}
 use Rattle.ctr_versions.specs.Engine.{SessionHeld}
-use Rattle.ctr_session_world.specs.paged_Paged.{Run}
-use Rattle.ctr_session_world.specs.kept_Turns.{state_now}
-use Rattle.ctr_session_world.specs.txn_Held.{me_in, number_drawn, run_of}
-use Rattle.ctr_session_world.specs.txn_Numbered.{NumbersHeld}
-use Rattle.ctr_session_world.specs.txn_Steps.{txn_asked}
-use Rattle.ctr_session_world.specs.Ready.{is_asking}
-use Rattle.ctr_session_world.specs.World.{SessionsHeld}
-use Rattle.ctr_session_world.specs.Told.{IsTold}
-use Rattle.ctr_session_world.proofs.Standing.{comes, none_of, seat_of}
-use Rattle.ctr_session_world.proofs.Ready.{others_set, own_set, ready_as_was, ready_here, ready_logged, stands_with, unasked_set}
-use Rattle.ctr_session_world.proofs.Resting.{rests_here, refused_told}
+use Rattle.ctr_writing.specs.ctr_session_world.paged_Paged.{Run}
+use Rattle.ctr_writing.specs.ctr_session_world.kept_Turns.{state_now}
+use Rattle.ctr_writing.specs.ctr_session_world.txn_Held.{me_in, number_drawn, run_of}
+use Rattle.ctr_writing.specs.ctr_session_world.txn_Numbered.{NumbersHeld}
+use Rattle.ctr_writing.specs.ctr_session_world.txn_Steps.{txn_asked}
+use Rattle.ctr_writing.specs.ctr_session_world.Ready.{is_asking}
+use Rattle.ctr_writing.specs.ctr_session_world.World.{SessionsHeld}
+use Rattle.ctr_writing.specs.ctr_session_world.Told.{IsTold}
+use Rattle.ctr_writing.proofs.ctr_session_world.Standing.{comes, none_of, seat_of}
+use Rattle.ctr_writing.proofs.ctr_session_world.Ready.{others_set, own_set, ready_as_was, ready_here, ready_logged, stands_with, unasked_set}
+use Rattle.ctr_writing.proofs.ctr_session_world.Resting.{rests_here, refused_told}
 use Rattle.ctr_control.proofs.Asking.{asks, asked_told, ends, in_neither, many_asked, refused_outside}
-use Rattle.ctr_session_world.proofs.Idling.{idle_seat}
-use Rattle.ctr_session_world.proofs.Numbers.{idle_in}
+use Rattle.ctr_writing.proofs.ctr_session_world.Idling.{idle_seat}
+use Rattle.ctr_writing.proofs.ctr_session_world.Numbers.{idle_in}
 use Rattle.ctr_control.proofs.Gone.{gone_told}
 use Rattle.ctr_control.proofs.Unasked.{ready, unasked_next}
-use Rattle.ctr_session_world.proofs.Disks.{disk_done, disk_failed, disk_one, disk_still}
+use Rattle.ctr_writing.proofs.ctr_session_world.Disks.{disk_done, disk_failed, disk_one, disk_still}
 use Rattle.ctr_control.proofs.ending.ask.Goals as goal
 
 -- ---- what is left of the sessions

@@ -5,8 +5,8 @@ use Rattle.ctr_rec.specs.declared.record.Record.TheVariants.{Commit}
 use Rattle.ctr_record_effects.specs.States.{pages_in}
 use Rattle.ctr_actions.specs.Sites.{site_of}
 use Rattle.ctr_actions.specs.Actions.{Commits}
-use Rattle.ctr_session_world.specs.txn_Held.{number_drawn}
-use Rattle.ctr_session_world.proofs.rollback_Records.{refused_by_disk, three_ok}
+use Rattle.ctr_writing.specs.ctr_session_world.txn_Held.{number_drawn}
+use Rattle.ctr_writing.proofs.ctr_session_world.rollback_Records.{refused_by_disk, three_ok}
 use Rattle.ctr_control.proofs.marks.ask_for.Goals as goal
 
 pub returns-clause-marks : goal.returns-clause-marks

@@ -1,9 +1,9 @@
 use Rattle.std.proofs.Common.{◌<◌, sym, ◌∙◌, ap, subst}
 use Rattle.ctr_types.specs.declared.statement.Statement.TheVariants as st
 use Rattle.ctr_versions.specs.Engine.{SessionHeld}
-use Rattle.ctr_session_world.specs.ctr_rollback.Rolling.{MayRoll}
-use Rattle.ctr_session_world.specs.txn_Held.{me_in}
-use Rattle.ctr_session_world.proofs.Standing.{seat_of}
+use Rattle.ctr_writing.specs.ctr_session_world.ctr_rollback.Rolling.{MayRoll}
+use Rattle.ctr_writing.specs.ctr_session_world.txn_Held.{me_in}
+use Rattle.ctr_writing.proofs.ctr_session_world.Standing.{seat_of}
 use Rattle.ctr_control.proofs.Rolled.{is_open}
 use Rattle.ctr_control.proofs.rolling.a_writer_may_roll_back.Goals as goal
 

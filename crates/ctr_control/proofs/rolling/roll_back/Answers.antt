@@ -9,21 +9,21 @@ use Rattle.ctr_model.specs.Maps.{without}
 use Rattle.ctr_model.specs.Reply.{next_from}
 use Rattle.ctr_actions.specs.Sites.{Site, site_of}
 use Rattle.ctr_versions.specs.Engine.{SessionHeld}
-use Rattle.ctr_session_world.specs.kept_Turns.{state_now}
-use Rattle.ctr_session_world.specs.ctr_rollback.Rolling.{MayRoll, RollsTo, RollsTxns}
-use Rattle.ctr_session_world.specs.txn_Held.{me_in, run_of}
-use Rattle.ctr_session_world.specs.txn_Numbered.{NumbersHeld}
-use Rattle.ctr_session_world.specs.txn_Steps.{txn_undoing}
-use Rattle.ctr_session_world.specs.World.{SessionsHeld}
+use Rattle.ctr_writing.specs.ctr_session_world.kept_Turns.{state_now}
+use Rattle.ctr_writing.specs.ctr_session_world.ctr_rollback.Rolling.{MayRoll, RollsTo, RollsTxns}
+use Rattle.ctr_writing.specs.ctr_session_world.txn_Held.{me_in, run_of}
+use Rattle.ctr_writing.specs.ctr_session_world.txn_Numbered.{NumbersHeld}
+use Rattle.ctr_writing.specs.ctr_session_world.txn_Steps.{txn_undoing}
+use Rattle.ctr_writing.specs.ctr_session_world.World.{SessionsHeld}
 use Rattle.ctr_control.proofs.Asking.{in_neither}
 use Rattle.ctr_control.proofs.Gone.{gone_told}
 use Rattle.ctr_control.proofs.Others.{others_of}
-use Rattle.ctr_session_world.proofs.Ready.{others_set, ready_as_was, ready_here, stands_with, unasked_set}
-use Rattle.ctr_session_world.proofs.Resting.{rests_here, refused_told}
+use Rattle.ctr_writing.proofs.ctr_session_world.Ready.{others_set, ready_as_was, ready_here, stands_with, unasked_set}
+use Rattle.ctr_writing.proofs.ctr_session_world.Resting.{rests_here, refused_told}
 use Rattle.ctr_control.proofs.Rolled.{KeepsTitles, at_rollback, back_comes, back_refused, is_open, its, titles_undone, undoing_run, undone_kept, writer}
-use Rattle.ctr_session_world.proofs.Standing.{comes, none_of, seat_of}
+use Rattle.ctr_writing.proofs.ctr_session_world.Standing.{comes, none_of, seat_of}
 use Rattle.ctr_control.proofs.Unasked.{ready, unasked_next}
-use Rattle.ctr_session_world.proofs.Disks.{disk_done, disk_failed, disk_still}
+use Rattle.ctr_writing.proofs.ctr_session_world.Disks.{disk_done, disk_failed, disk_still}
 use Rattle.ctr_control.proofs.rolling.roll_back.Goals as goal
 
 -- ---- what is left of the sessions

@@ -3,17 +3,17 @@ use Rattle.std.specs.Prelude.{OnOk}
 use Rattle.ctr_disk.specs.declared.fault.StoreFault.{StoreFault}
 use Rattle.ctr_rec.specs.declared.record.Record.{Record}
 use Rattle.ctr_store.specs.Store.{TakesRecord, View}
-use Rattle.ctr_session_world.specs.txn_Held.{IsOneOfEight, IsWriting, TxnsHeld}
-use Rattle.ctr_session_world.specs.txn_Calls.{IsOverStore}
-use Rattle.ctr_session_world.specs.txn_Rooms.{HasItemRoom}
-use Rattle.ctr_session_world.specs.txn_Steps.{txn_undoing}
-use Rattle.ctr_session_world.specs.ctr_rollback.Rolling.{RollsTxns}
-use Rattle.ctr_session_world.specs.ctr_rollback.declared.rolling.Rolled.{Rolled}
-use Rattle.ctr_session_world.specs.ctr_rollback.declared.rolling.Rolled.TheVariants.{Undone, Back}
-use Rattle.ctr_session_world.proofs.rollback_Records.{three_ok}
-use Rattle.ctr_session_world.specs.Ready.{LeavesOver}
-use Rattle.ctr_session_world.proofs.Ready.{others_set, ready_logged, unasked_as, unasked_set}
-use Rattle.ctr_session_world.proofs.Disks.{disk_one}
+use Rattle.ctr_writing.specs.ctr_session_world.txn_Held.{IsOneOfEight, IsWriting, TxnsHeld}
+use Rattle.ctr_writing.specs.ctr_session_world.txn_Calls.{IsOverStore}
+use Rattle.ctr_writing.specs.ctr_session_world.txn_Rooms.{HasItemRoom}
+use Rattle.ctr_writing.specs.ctr_session_world.txn_Steps.{txn_undoing}
+use Rattle.ctr_writing.specs.ctr_session_world.ctr_rollback.Rolling.{RollsTxns}
+use Rattle.ctr_writing.specs.ctr_session_world.ctr_rollback.declared.rolling.Rolled.{Rolled}
+use Rattle.ctr_writing.specs.ctr_session_world.ctr_rollback.declared.rolling.Rolled.TheVariants.{Undone, Back}
+use Rattle.ctr_writing.proofs.ctr_session_world.rollback_Records.{three_ok}
+use Rattle.ctr_writing.specs.ctr_session_world.Ready.{LeavesOver}
+use Rattle.ctr_writing.proofs.ctr_session_world.Ready.{others_set, ready_logged, unasked_as, unasked_set}
+use Rattle.ctr_writing.proofs.ctr_session_world.Disks.{disk_one}
 use Rattle.ctr_control.proofs.rolling.undo_or_abort.Goals as goal
 
 module _ {D : Type 0} (s : ℕ) (old new : TxnsHeld) (a b : View D) (one : IsOneOfEight s) (eight : length old.sessions ≡ 8) (writing : IsWriting s old) (rec : Record) where

@@ -5,8 +5,8 @@ use Rattle.ctr_types.specs.declared.statement.Statement.TheVariants as st
 use Rattle.ctr_model.specs.Refusals.{changes_schema, key_written}
 use Rattle.ctr_control.specs.txn_Held.{IsWriting, number_drawn}
 use Rattle.ctr_control.specs.kept_Turns.{state_now}
-use Rattle.ctr_writing.specs.ctr_session_world.Told.{IsNextOf}
-use Rattle.ctr_writing.specs.ctr_session_world.World.{SessionsHeld}
+use Rattle.ctr_control.specs.ctr_session_world.Told.{IsNextOf}
+use Rattle.ctr_control.specs.ctr_session_world.World.{SessionsHeld}
 use Rattle.ctr_exec.specs.declared.runners.Stage.{Stage}
 use Rattle.ctr_exec.specs.Acting.{IsMidway, MayAct, RollsAct, TurnOfAct}
 use Rattle.ctr_exec.specs.Runners.{made_at}

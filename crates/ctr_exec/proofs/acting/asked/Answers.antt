@@ -3,9 +3,9 @@ use Rattle.std.specs.Prelude.{not}
 use Rattle.ctr_types.specs.declared.statement.Statement.TheVariants as st
 use Rattle.ctr_types.specs.declared.tape.Act.TheVariants as act
 use Rattle.ctr_model.specs.Laws.{is_asked}
-use Rattle.ctr_writing.specs.ctr_session_world.World.{SessionsHeld}
-use Rattle.ctr_writing.proofs.ctr_session_world.Disks.{disk_done, disk_failed}
-use Rattle.ctr_writing.specs.ctr_session_world.Told.{IsTold}
+use Rattle.ctr_control.specs.ctr_session_world.World.{SessionsHeld}
+use Rattle.ctr_control.proofs.ctr_session_world.Disks.{disk_done, disk_failed}
+use Rattle.ctr_control.specs.ctr_session_world.Told.{IsTold}
 use Rattle.ctr_exec.proofs.Replies.{asked_is, asked_isnt, asks_none}
 use Rattle.ctr_exec.proofs.acting.asked.Goals as goal
 

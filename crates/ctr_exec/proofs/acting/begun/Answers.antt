@@ -1,8 +1,8 @@
 use Rattle.std.proofs.Common.{inl, refl}
 use Rattle.ctr_types.specs.declared.statement.Statement.TheVariants as st
 use Rattle.ctr_types.specs.declared.tape.Act.TheVariants as act
-use Rattle.ctr_writing.specs.ctr_session_world.World.{SessionsHeld}
-use Rattle.ctr_writing.proofs.ctr_session_world.Disks.{disk_still}
+use Rattle.ctr_control.specs.ctr_session_world.World.{SessionsHeld}
+use Rattle.ctr_control.proofs.ctr_session_world.Disks.{disk_still}
 use Rattle.ctr_exec.proofs.Answered.{not_asked}
 use Rattle.ctr_exec.proofs.acting.begun.Goals as goal
 

@@ -3,8 +3,8 @@ use Rattle.std.specs.Prelude.{IfOk}
 use Rattle.ctr_types.specs.declared.statement.Statement.{Statement}
 use Rattle.ctr_types.specs.declared.statement.Statement.TheVariants as st
 use Rattle.ctr_control.specs.kept_Turns.{state_now}
-use Rattle.ctr_writing.specs.ctr_session_world.Told.{IsIdleIn, IsNextOf}
-use Rattle.ctr_writing.specs.ctr_session_world.World.{SessionsHeld}
+use Rattle.ctr_control.specs.ctr_session_world.Told.{IsIdleIn, IsNextOf}
+use Rattle.ctr_control.specs.ctr_session_world.World.{SessionsHeld}
 use Rattle.ctr_control.specs.txn_Held.{IsWriting, number_drawn}
 use Rattle.ctr_exec.specs.Acting.{IsIdleFor, RollsAct, TurnOfAct}
 use Rattle.ctr_exec.proofs.acting.first.Goals as goal

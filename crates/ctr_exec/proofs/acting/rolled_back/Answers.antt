@@ -1,9 +1,9 @@
 use Rattle.std.proofs.Common.{inl, Ok, Option, refl, ap, subst}
 use Rattle.ctr_types.specs.declared.statement.Statement.TheVariants as st
 use Rattle.ctr_types.specs.declared.tape.Act.TheVariants as act
-use Rattle.ctr_writing.specs.ctr_session_world.World.{SessionsHeld}
-use Rattle.ctr_writing.proofs.ctr_session_world.Disks.{disk_done, disk_failed}
-use Rattle.ctr_writing.specs.ctr_session_world.Told.{TellsOrGoesOn}
+use Rattle.ctr_control.specs.ctr_session_world.World.{SessionsHeld}
+use Rattle.ctr_control.proofs.ctr_session_world.Disks.{disk_done, disk_failed}
+use Rattle.ctr_control.specs.ctr_session_world.Told.{TellsOrGoesOn}
 use Rattle.ctr_types.specs.declared.tape.Reply.{Reply}
 use Rattle.ctr_control.specs.Rolling.{rolled_by}
 use Rattle.ctr_control.specs.ctr_rollback.Rolling.{RollsTo}

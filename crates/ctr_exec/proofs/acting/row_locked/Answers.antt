@@ -1,10 +1,10 @@
 use Rattle.std.proofs.Common.{Bool, cond, inl, refl, ap, subst}
 use Rattle.ctr_types.specs.declared.tape.Act.TheVariants as act
 use Rattle.ctr_types.specs.declared.tape.Reply.TheVariants as reply
-use Rattle.ctr_writing.specs.ctr_session_world.World.{SessionsHeld}
-use Rattle.ctr_writing.proofs.ctr_session_world.Disks.{disk_done, disk_failed}
-use Rattle.ctr_writing.specs.ctr_looks.Locking.{IsReadyLocked, IsReadyBehind, locked_reply}
-use Rattle.ctr_writing.specs.ctr_session_world.Told.{IsTold}
+use Rattle.ctr_control.specs.ctr_session_world.World.{SessionsHeld}
+use Rattle.ctr_control.proofs.ctr_session_world.Disks.{disk_done, disk_failed}
+use Rattle.ctr_control.specs.ctr_writing.ctr_looks.Locking.{IsReadyLocked, IsReadyBehind, locked_reply}
+use Rattle.ctr_control.specs.ctr_session_world.Told.{IsTold}
 use Rattle.ctr_exec.proofs.Answered.{not_asked}
 use Rattle.ctr_exec.proofs.Points.{row_acts}
 use Rattle.ctr_exec.proofs.acting.row_locked.Goals as goal

@@ -1,7 +1,7 @@
 use Rattle.std.proofs.Common.{inr, refl}
 use Rattle.ctr_types.specs.declared.tape.Act.TheVariants as act
-use Rattle.ctr_writing.specs.ctr_session_world.World.{SessionsHeld}
-use Rattle.ctr_writing.proofs.ctr_session_world.Disks.{disk_done, disk_failed}
+use Rattle.ctr_control.specs.ctr_session_world.World.{SessionsHeld}
+use Rattle.ctr_control.proofs.ctr_session_world.Disks.{disk_done, disk_failed}
 use Rattle.ctr_exec.proofs.Answered.{not_asked}
 use Rattle.ctr_exec.proofs.Points.{table_acts}
 use Rattle.ctr_exec.proofs.acting.table_written.Goals as goal

@@ -6,8 +6,8 @@ use Rattle.ctr_meta.specs.Needs.{needs}
 use Rattle.ctr_meta.specs.Tables.{Tables}
 use Rattle.ctr_rec.specs.declared.record.Record.TheVariants.{Begin}
 use Rattle.ctr_record_effects.specs.States.{pages_in}
-use Rattle.ctr_wishes.specs.actions_Actions.{Begins, Owes, site_after}
-use Rattle.ctr_wishes.specs.actions_Sites.{site_of}
+use Rattle.ctr_asking.specs.ctr_wishes.actions_Actions.{Begins, Owes, site_after}
+use Rattle.ctr_asking.specs.ctr_wishes.actions_Sites.{site_of}
 use Rattle.ctr_session_world.specs.paged_Moving.{held_as}
 use Rattle.ctr_store.specs.Store.{Logs}
 use Rattle.ctr_session_world.specs.txn_Held.{TxnHeld, run_of}

@@ -9,7 +9,7 @@ use Rattle.ctr_area.specs.Sound.{IsAmong}
 use Rattle.ctr_redo.specs.States.{State as Stored}
 use Rattle.ctr_record_effects.specs.States.{area_in}
 use Rattle.ctr_session_world.specs.actions_Facts.{Fact, HasTable}
-use Rattle.ctr_wishes.specs.actions_Sites.{Site}
+use Rattle.ctr_asking.specs.ctr_wishes.actions_Sites.{Site}
 use Rattle.ctr_session_world.specs.paged_Paged.{Run}
 use Rattle.ctr_session_world.specs.paged_Moving.{held_as}
 use Rattle.ctr_session_world.specs.txn_Held.{run_of}

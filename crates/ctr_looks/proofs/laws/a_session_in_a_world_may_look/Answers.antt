@@ -1,7 +1,7 @@
 use Rattle.std.proofs.Common.{List, ℕ, refl, sym, ◌∙◌, ap, subst}
-use Rattle.ctr_wishes.specs.actions_Sites.{site_of}
+use Rattle.ctr_asking.specs.ctr_wishes.actions_Sites.{site_of}
 use Rattle.ctr_session_world.specs.paged_Paged.{Run}
-use Rattle.ctr_wishes.specs.paged_Shown.{IsShown}
+use Rattle.ctr_asking.specs.ctr_wishes.paged_Shown.{IsShown}
 use Rattle.ctr_locks.specs.Held.{LocksOfSession}
 use Rattle.ctr_locks.specs.Shows.{ShowsKeyLocks}
 use Rattle.ctr_session_world.specs.kept_Turns.{state_now}

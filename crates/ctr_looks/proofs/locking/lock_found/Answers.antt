@@ -11,26 +11,26 @@ use Rattle.ctr_model.specs.declared.state.State.{State}
 use Rattle.ctr_versions.proofs.Keys.{some_is}
 use Rattle.ctr_base.specs.Base.{IsSoundImage}
 use Rattle.ctr_store.specs.Store.{View, LeavesFront}
-use Rattle.ctr_wishes.specs.chain_ReadRefusal.{ReadRefusal}
-use Rattle.ctr_wishes.specs.chain_ReadRefusal.TheVariants as unread
+use Rattle.ctr_asking.specs.ctr_wishes.chain_ReadRefusal.{ReadRefusal}
+use Rattle.ctr_asking.specs.ctr_wishes.chain_ReadRefusal.TheVariants as unread
 use Rattle.ctr_meta.specs.Seen.{xid_is_seen}
 use Rattle.ctr_area.specs.Sound.{IsAmong}
 use Rattle.ctr_redo.specs.States.{State as Stored}
 use Rattle.ctr_record_effects.specs.States.{area_in}
 use Rattle.ctr_session_world.specs.actions_Facts.{HasTable}
-use Rattle.ctr_wishes.specs.actions_Sites.{site_of}
+use Rattle.ctr_asking.specs.ctr_wishes.actions_Sites.{site_of}
 use Rattle.ctr_session_world.specs.kept_Walk.{Mind}
 use Rattle.ctr_session_world.specs.kept_Turns.{scene_now, state_now}
 use Rattle.ctr_session_world.proofs.kept_Walking.{keeps_reached}
-use Rattle.ctr_wishes.specs.ctr_views.Viewing.{Viewer}
+use Rattle.ctr_asking.specs.ctr_wishes.ctr_views.Viewing.{Viewer}
 use Rattle.ctr_session_world.specs.txn_Held.{TxnHeld}
 use Rattle.ctr_session_world.specs.page_turns_Turns.{RestsBehind}
 use Rattle.ctr_asking.specs.Asking.{me_held}
 use Rattle.ctr_asking.proofs.Passing.{number_held}
-use Rattle.ctr_wishes.specs.declared.making.Prepared.{Prepared}
-use Rattle.ctr_wishes.specs.Preparing.{IsPrepared}
+use Rattle.ctr_asking.specs.ctr_wishes.declared.making.Prepared.{Prepared}
+use Rattle.ctr_asking.specs.ctr_wishes.Preparing.{IsPrepared}
 use Rattle.ctr_asking.specs.walk_Damage.{ReadsPages}
-use Rattle.ctr_wishes.specs.ctr_reading.Reading.{as_told}
+use Rattle.ctr_asking.specs.ctr_wishes.ctr_reading.Reading.{as_told}
 use Rattle.ctr_session_world.specs.World.{SessionsHeld}
 use Rattle.ctr_session_world.specs.Told.{IsNextOf, IsTold}
 use Rattle.ctr_looks.specs.Granting.{HasItemIfGranted, CountsOnTable, KeepsSessions, granted_or}

@@ -1,5 +1,5 @@
 use Rattle.std.proofs.Common.{not, refl, sym, ◌∙◌, ap, subst}
-use Rattle.ctr_wishes.specs.actions_Sites.{site_of}
+use Rattle.ctr_asking.specs.ctr_wishes.actions_Sites.{site_of}
 use Rattle.ctr_model.specs.Refusals.{table_of}
 use Rattle.ctr_versions.specs.Engine.{SessionHeld, IsCalm}
 use Rattle.ctr_session_world.specs.World.{SessionsHeld}

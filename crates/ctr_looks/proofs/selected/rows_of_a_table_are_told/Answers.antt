@@ -10,12 +10,12 @@ use Rattle.ctr_model.specs.Tape.{Allowed}
 use Rattle.ctr_versions.specs.Engine.{SessionHeld}
 use Rattle.ctr_redo.specs.States.{State as Stored}
 use Rattle.ctr_record_effects.specs.States.{area_in}
-use Rattle.ctr_wishes.specs.actions_Sites.{site_of}
+use Rattle.ctr_asking.specs.ctr_wishes.actions_Sites.{site_of}
 use Rattle.ctr_locks.specs.Held.{held_by_session, locks_key, session_locks}
 use Rattle.ctr_session_world.specs.kept_Walk.{Mind}
 use Rattle.ctr_session_world.specs.kept_Turns.{scene_now, state_now, telling}
 use Rattle.ctr_session_world.proofs.kept_Walking.{keeps_reached}
-use Rattle.ctr_wishes.specs.ctr_views.Viewing.{Viewer}
+use Rattle.ctr_asking.specs.ctr_wishes.ctr_views.Viewing.{Viewer}
 use Rattle.ctr_session_world.specs.ctr_told.Turning.{IsIdle, TellsOf}
 use Rattle.ctr_session_world.proofs.ctr_told.Silent.{same_carried}
 use Rattle.ctr_asking.specs.Asking.{me_held}

@@ -10,7 +10,7 @@ use Rattle.ctr_versions.proofs.Keys.{some_is}
 use Rattle.ctr_meta.specs.Seen.{xid_is_seen}
 use Rattle.ctr_record_effects.specs.States.{area_in}
 use Rattle.ctr_session_world.specs.kept_Turns.{state_now}
-use Rattle.ctr_wishes.specs.ctr_reading.Reading.{as_told, AreShown}
+use Rattle.ctr_asking.specs.ctr_wishes.ctr_reading.Reading.{as_told, AreShown}
 use Rattle.ctr_session_world.specs.txn_Held.{TxnHeld}
 use Rattle.ctr_asking.specs.Asking.{me_held}
 use Rattle.ctr_session_world.specs.World.{SessionsHeld, names_in}
@@ -19,7 +19,7 @@ use Rattle.ctr_session_world.specs.Ready.{LeavesDisk, LeavesOver}
 use Rattle.ctr_session_world.proofs.Disks.{disk_done, disk_failed}
 use Rattle.ctr_types.specs.declared.memory.OutOfMemory.{OutOfMemory}
 use Rattle.ctr_types.specs.declared.value.Rows.{Rows}
-use Rattle.ctr_wishes.specs.chain_ReadRefusal.{ReadRefusal}
+use Rattle.ctr_asking.specs.ctr_wishes.chain_ReadRefusal.{ReadRefusal}
 use Rattle.ctr_looks.proofs.selecting.read_found.Goals as goal
 
 -- ---- what is left of the sessions

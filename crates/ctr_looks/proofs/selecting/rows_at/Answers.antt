@@ -7,10 +7,10 @@ use Rattle.ctr_types.specs.declared.statement.KeyIs.{KeyIs}
 use Rattle.ctr_types.specs.declared.memory.OutOfMemory.{OutOfMemory}
 use Rattle.ctr_types.specs.declared.value.Row.{Row}
 use Rattle.ctr_types.specs.declared.value.Rows.{Rows}
-use Rattle.ctr_wishes.specs.chain_ReadRefusal.{ReadRefusal}
-use Rattle.ctr_wishes.specs.chain_ReadRefusal.TheVariants as unread
+use Rattle.ctr_asking.specs.ctr_wishes.chain_ReadRefusal.{ReadRefusal}
+use Rattle.ctr_asking.specs.ctr_wishes.chain_ReadRefusal.TheVariants as unread
 use Rattle.ctr_record_effects.specs.States.{area_in}
-use Rattle.ctr_wishes.specs.ctr_reading.Reading.{as_told, AreShown, GivesSeen, sees}
+use Rattle.ctr_asking.specs.ctr_wishes.ctr_reading.Reading.{as_told, AreShown, GivesSeen, sees}
 use Rattle.ctr_disk.specs.Image.{Image}
 use Rattle.ctr_disk.specs.declared.disk.Disk.{Ghosts}
 use Rattle.ctr_store.specs.Store.{View}

@@ -1,8 +1,8 @@
 use Rattle.std.proofs.Common.{◌≡◌, Ok, Err, refl, sym, ◌∙◌, ap, subst}
-use Rattle.ctr_redo.specs.States.{State}
-use Rattle.ctr_record_effects.specs.Standing.{IsDatabaseState}
+use Rattle.ctr_walk.specs.redo_States.{State}
+use Rattle.ctr_walk.specs.record_effects_Standing.{IsDatabaseState}
 use Rattle.ctr_actions.specs.Sites.{site_of}
-use Rattle.ctr_cursor.specs.Standing.{IsPosition}
+use Rattle.ctr_cleaner.specs.cursor_Standing.{IsPosition}
 use Rattle.ctr_cleaner.specs.Turning.{heeding, TurnsAt, next_cleaned, LeavesRoomBy}
 use Rattle.ctr_pass.proofs.going.clean_from.Goals as goal
 

@@ -7,11 +7,11 @@ use Rattle.ctr_types.specs.declared.statement.Statement.TheVariants as st
 use Rattle.ctr_versions.proofs.Keys.{some_is}
 use Rattle.ctr_control.specs.kept_Turns.{state_now}
 use Rattle.ctr_control.specs.txn_Held.{IsWriting, TxnsHeld, number_drawn, txn_of}
-use Rattle.ctr_writing.specs.ctr_session_world.Ready.{StandOver}
-use Rattle.ctr_writing.specs.ctr_session_world.Told.{IsNextOf}
-use Rattle.ctr_writing.specs.ctr_session_world.World.{SessionsHeld}
-use Rattle.ctr_writing.proofs.ctr_session_world.Disks.{disk_done, disk_failed}
-use Rattle.ctr_writing.specs.Tables.{HasFittingColumns}
+use Rattle.ctr_control.specs.ctr_session_world.Ready.{StandOver}
+use Rattle.ctr_control.specs.ctr_session_world.Told.{IsNextOf}
+use Rattle.ctr_control.specs.ctr_session_world.World.{SessionsHeld}
+use Rattle.ctr_control.proofs.ctr_session_world.Disks.{disk_done, disk_failed}
+use Rattle.ctr_control.specs.ctr_writing.Tables.{HasFittingColumns}
 use Rattle.ctr_exec.specs.declared.runners.Stage.{Stage}
 use Rattle.ctr_exec.specs.declared.sessions.Sessions.{Sessions}
 use Rattle.ctr_exec.specs.Acting.{IsMidway, LeavesAct, LeavesAsking, MayAct, RollsAct, TurnOfAct}

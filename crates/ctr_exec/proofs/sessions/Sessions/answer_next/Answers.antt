@@ -2,7 +2,7 @@ use Rattle.std.proofs.Common.{◌++◌, ◌∷◌, [], refl, sym, ◌∙◌, ap,
 use Rattle.ctr_types.specs.declared.tape.Act.TheVariants as act
 use Rattle.ctr_types.specs.declared.tape.Reply.TheVariants as reply
 use Rattle.ctr_control.specs.txn_Held.{TxnsHeld}
-use Rattle.ctr_writing.specs.ctr_session_world.Ready.{StandOver}
+use Rattle.ctr_control.specs.ctr_session_world.Ready.{StandOver}
 use Rattle.ctr_exec.specs.declared.sessions.Sessions.{Sessions}
 use Rattle.ctr_control.specs.Answers.{IsAnswered}
 use Rattle.ctr_exec.specs.Sessions.{held_by, noted}

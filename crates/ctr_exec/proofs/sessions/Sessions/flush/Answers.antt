@@ -1,4 +1,4 @@
-use Rattle.ctr_writing.proofs.ctr_session_world.Disks.{disk_page}
+use Rattle.ctr_control.proofs.ctr_session_world.Disks.{disk_page}
 use Rattle.ctr_exec.specs.Sessions.{held_by}
 use Rattle.ctr_exec.proofs.Fewer.{flush_falls}
 use Rattle.ctr_exec.proofs.Going.{goes_answered, shows_behind}

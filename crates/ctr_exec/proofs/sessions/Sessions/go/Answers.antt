@@ -1,6 +1,6 @@
 use Rattle.std.proofs.Common.{sym, ◌∙◌}
 use Rattle.std.proofs.lemmas.Bool.{false≢true}
-use Rattle.ctr_writing.proofs.ctr_session_world.Disks.{disk_page}
+use Rattle.ctr_control.proofs.ctr_session_world.Disks.{disk_page}
 use Rattle.ctr_exec.specs.Sessions.{held_by}
 use Rattle.ctr_exec.proofs.Fewer.{rooms_fall, waited_falls}
 use Rattle.ctr_exec.proofs.Going.{act_takes, flush_takes, pages_behind, room_takes}

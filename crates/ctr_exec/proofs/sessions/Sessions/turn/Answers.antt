@@ -1,5 +1,5 @@
 use Rattle.std.proofs.Common.{refl}
-use Rattle.ctr_writing.proofs.ctr_session_world.Disks.{disk_done, disk_failed, disk_still}
+use Rattle.ctr_control.proofs.ctr_session_world.Disks.{disk_done, disk_failed, disk_still}
 use Rattle.ctr_exec.proofs.Fewer.{over_goes}
 use Rattle.ctr_exec.proofs.Going.{over_takes}
 use Rattle.ctr_exec.proofs.Ordered.{adds_none, at_once}
