@@ -151,6 +151,11 @@ led_endures lines p (e ∷ es) still =
     (next_endures p.state e.session (transaction_of p.state e.session) e.act statement e.reply refl both.0)
     (led_endures lines (passed lines p e) es both.1)
 
+-- so behind entries, along more by which none ends
+pub more_endures : (lines : List Line) (p : Point) (es more : List Entry) → some_end more ≡ false → Endures (final lines p es).state (final lines p (es ++ more)).state
+more_endures lines p [] more still = led_endures lines p more still
+more_endures lines p (e ∷ es) more still = more_endures lines (passed lines p e) es more still
+
 -- who is in no transaction there was in none
 pub was_outside : (p q : State) (s : ℕ) → Endures p q → transaction_of q s ≡ None → transaction_of p s ≡ None
 was_outside p q s endures none = by (transaction_of p s) refl

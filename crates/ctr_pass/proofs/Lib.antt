@@ -1,5 +1,11 @@
 pub mod Enduring
 pub mod Beside
+pub mod Noted
+pub mod Stayed
+pub mod Turned
+pub mod Freely
+pub mod Outside
+pub mod Rooms
 pub use Rattle.ctr_exec.proofs.Fewer as exec_Fewer
 pub use Rattle.ctr_exec.proofs.Going as exec_Going
 pub use Rattle.ctr_exec.proofs.Places as exec_Places

@@ -1,6 +1,8 @@
 pub mod Passing
 pub mod Beside
 pub mod Going
+pub mod Keeping
+pub mod Sparing
 pub use Rattle.ctr_cleaner.specs.Finding as cleaner_Finding
 pub use Rattle.ctr_cleaner.specs.Turning as cleaner_Turning
 pub use Rattle.ctr_cleaner.specs.declared.done.CleanTurn as cleaner_CleanTurn
@@ -19,7 +21,9 @@ pub use Rattle.ctr_exec.specs.ctr_session_world.World as session_world_World
 pub use Rattle.ctr_exec.specs.ctr_writing.Tables as writing_Tables
 pub use Rattle.ctr_exec.specs.txn_Held as txn_Held
 pub use Rattle.ctr_exec.specs.txn_Rooms as txn_Rooms
+pub use Rattle.ctr_exec.specs.ctr_control.txn_Steps as txn_Steps
 pub use Rattle.ctr_cleaner.specs.cleaning_Sparing as cleaning_Sparing
 pub use Rattle.ctr_cleaner.specs.actions_Cleaning as actions_Cleaning
 pub use Rattle.ctr_cleaner.specs.page_turns_Acts as page_turns_Acts
 pub use Rattle.ctr_cleaner.specs.page_turns_Turns as page_turns_Turns
+pub use Rattle.ctr_cleaner.specs.declared.done.MayEmpty as cleaner_MayEmpty

@@ -1,7 +1,7 @@
 // Where a pass of the cleaner is.
-ghost use Rattle.std.specs.Prelude.{◌≡◌, None, Some, drop};
+ghost use Rattle.std.specs.Prelude.{◌≡◌, true, false, None, Some, drop};
 ghost use Rattle.ctr_pass.specs.Passing.{is_end as ends_one, keeps_room as room_kept, noted as noted_by, pass_behind, pass_on, some_end};
-ghost use Rattle.ctr_pass.specs.declared.pass.Phase.TheVariants.{Calm};
+ghost use Rattle.ctr_pass.specs.declared.pass.Phase.TheVariants.{Calm, Idle};
 ghost use Rattle.ctr_cleaner.specs.cursor_Pass.{start};
 
 use crate::going::Went;
@@ -90,6 +90,17 @@ impl Pass {
             next,
             seen: tape.len(),
             phase,
+        }
+    }
+
+    /// Whether a whole pass found nothing, and nothing has happened since.
+    pub fn is_idle(self) -> bool
+        ensures yes { result ≡ true → self.phase ≡ Idle }
+        ensures no { result ≡ false → self.phase ≡ Idle → ⊥ }
+    {
+        match self.phase {
+            Phase::Disturbed | Phase::Calm => false,
+            Phase::Idle => true,
         }
     }
 

@@ -17,11 +17,11 @@ use Rattle.ctr_model.specs.Tape.{at_start, final, progress_of, statements_of, st
 use Rattle.ctr_world.specs.txn_Held.{IsOneOfEight}
 use Rattle.ctr_serial.specs.Lines.{count_in}
 use Rattle.ctr_serial.proofs.Lists.{count_front, count_mine, serial_front}
-use Rattle.ctr_world.proofs.ctr_exec.Places.{count_of, runner_of}
-use Rattle.ctr_world.specs.ctr_exec.declared.runners.Runner.{Runner}
-use Rattle.ctr_world.specs.ctr_exec.declared.sessions.Sessions.{Sessions}
-use Rattle.ctr_world.specs.ctr_exec.Order.{IsOrdered, IsReleaseEntry, StandInOrder, led_from}
-use Rattle.ctr_world.specs.ctr_exec.Runners.{AreRunners, runner_at, IsRunnerOf}
+use Rattle.ctr_world.proofs.exec_Places.{count_of, runner_of}
+use Rattle.ctr_world.specs.exec_Runner.{Runner}
+use Rattle.ctr_world.specs.exec_sessions_Sessions.{Sessions}
+use Rattle.ctr_world.specs.exec_Order.{IsOrdered, IsReleaseEntry, StandInOrder, led_from}
+use Rattle.ctr_world.specs.exec_Runners.{AreRunners, runner_at, IsRunnerOf}
 use Rattle.ctr_world.specs.Held.{Held}
 use Rattle.ctr_world.specs.Opened.{IsRunLine}
 use Rattle.ctr_world.specs.Turns.{EndsTurn, HasStatementLeft}
@@ -194,7 +194,7 @@ module _ {D : Type 0} (g : Ghosts D) (start : ℕ) (lines : List Line) (runs : A
       let all = all_append (λ (e : Entry). IsReleaseEntry e ⊎ (e.act ≡ act.Answer)) such.0 such.1 (by_recovery such.0 such.3.1) (by_answers such.1 such.4) in
       rests_with w v stands (after says.1) says.1 ran (such.0 ++ such.1) (adds.tape ∙ ap (λ (m : List Entry). w.running.sessions.tape.items ++ m) such.2) all
   went actor.Flusher none w v stands after ran says = rests_with w v stands (after says.1) says.1 ran says.2.entries says.2.tape (by_answers says.2.entries says.2.are_such)
-  went actor.Cleaner none w v stands after ran says = absurd says.3
+  went actor.Cleaner none w v stands after ran says = rests_with w v stands (after says.1) says.1 ran says.2.entries says.2.tape (by_answers says.2.entries says.2.are_such)
 
   -- what a turn between two lines leaves
   pub rests : (t : Turn) (a : Actor) → IsBetween a → (w v : Held D) → Stands g start lines w → (v.stop ≡ None → Stands g start lines v) → EndsTurn g t a w v → RanOrStopped start lines k w → RanOrStopped start lines k v

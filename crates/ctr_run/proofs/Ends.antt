@@ -28,7 +28,7 @@ use Rattle.ctr_base.proofs.RootLaws.{one_root}
 use Rattle.ctr_store.specs.Opening.{worn_in}
 use Rattle.ctr_serial.proofs.Lists.{serial_front}
 use Rattle.ctr_world.specs.declared.opening.Opening.{Ghosts as Opening}
-use Rattle.ctr_world.specs.ctr_exec.Order.{StandInOrder}
+use Rattle.ctr_world.specs.exec_Order.{StandInOrder}
 use Rattle.ctr_world.specs.Held.{Held}
 use Rattle.ctr_world.specs.Opened.{IsOpenedOn, IsRunLine}
 use Rattle.ctr_world.specs.World.{IsLegalTape, IsTapeOf, LeavesPrefix, StopsBy, IsUndamaged as GoesUndamaged}

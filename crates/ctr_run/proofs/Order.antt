@@ -16,8 +16,8 @@ use Rattle.ctr_model.specs.declared.tape.Point.{Point}
 use Rattle.ctr_model.specs.declared.tape.Progress.{Progress}
 use Rattle.ctr_model.specs.Tape.{acts_of, advanced, final, goes_on, is_release, passed, passed_by, progress_of, statement_of, statements_of, statements_on, with_statement}
 use Rattle.ctr_world.specs.txn_Held.{IsOneOfEight}
-use Rattle.ctr_world.specs.ctr_exec.Order.{IsNextInOrder, IsReleaseEntry, StandInOrder}
-use Rattle.ctr_world.specs.ctr_exec.Sessions.{AreAnswers}
+use Rattle.ctr_world.specs.exec_Order.{IsNextInOrder, IsReleaseEntry, StandInOrder}
+use Rattle.ctr_world.specs.exec_Sessions.{AreAnswers}
 use Rattle.ctr_world.specs.Opened.{IsRunLine}
 use Rattle.ctr_run.specs.Lines.{IsAtRest}
 

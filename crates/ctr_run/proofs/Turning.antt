@@ -14,10 +14,10 @@ use Rattle.ctr_world.specs.txn_Held.{IsOneOfEight}
 use Rattle.ctr_serial.specs.Lines.{count_in, HasLines, IsEntryOfLine}
 use Rattle.ctr_serial.proofs.Lists.{serial_front, line_more, count_mine, count_other}
 use Rattle.ctr_serial.proofs.Walking.{line_has}
-use Rattle.ctr_world.proofs.ctr_exec.Points.{never_released, progress_mine, progress_other}
-use Rattle.ctr_world.specs.ctr_exec.declared.sessions.Sessions.{Sessions}
-use Rattle.ctr_world.specs.ctr_exec.Order.{IsNextInOrder, StandInOrder, led_from}
-use Rattle.ctr_world.specs.ctr_exec.Sessions.{AreAnswers, AreOfTurn}
+use Rattle.ctr_world.proofs.exec_Points.{never_released, progress_mine, progress_other}
+use Rattle.ctr_world.specs.exec_sessions_Sessions.{Sessions}
+use Rattle.ctr_world.specs.exec_Order.{IsNextInOrder, StandInOrder, led_from}
+use Rattle.ctr_world.specs.exec_Sessions.{AreAnswers, AreOfTurn}
 use Rattle.ctr_world.specs.Opened.{IsRunLine}
 use Rattle.ctr_run.specs.Lines.{IsAtRest, InLine, RanLines}
 use Rattle.ctr_world.proofs.Adding.{all_append}

@@ -9,8 +9,8 @@ use Rattle.ctr_model.specs.declared.tape.Point.{Point}
 use Rattle.ctr_model.specs.Tape.{progress_of, IsSerial}
 use Rattle.ctr_world.specs.txn_Held.{IsOneOfEight}
 use Rattle.ctr_serial.specs.Lines.{count_in, HasLines, IsEntryOfLine}
-use Rattle.ctr_world.specs.ctr_exec.declared.sessions.Sessions.{Sessions}
-use Rattle.ctr_world.specs.ctr_exec.Order.{led_from}
+use Rattle.ctr_world.specs.exec_sessions_Sessions.{Sessions}
+use Rattle.ctr_world.specs.exec_Order.{led_from}
 use Rattle.ctr_world.specs.Held.{Held}
 
 -- a session has finished the statements of the first lines, and is in the middle of none

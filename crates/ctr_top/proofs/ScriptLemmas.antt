@@ -14,8 +14,8 @@ use Rattle.ctr_model.specs.Grammar.{Part, IsWithin, IsKind, column_parts, schema
 use Rattle.ctr_model.specs.Language.{MatchParts, SpellsLine}
 use Rattle.ctr_model.specs.Lines.{lines_of, is_at_end, in_front, AllSay, IsWritten}
 use Rattle.ctr_value.specs.Columns.{KindFits, ColumnFits, ColumnsFit}
-use Rattle.ctr_database.specs.ctr_run.ctr_world.ctr_exec.ctr_writing.Tables.{HasFittingColumns}
 use Rattle.ctr_database.specs.ctr_run.ctr_world.Opened.{IsRunLine}
+use Rattle.ctr_database.specs.ctr_run.ctr_world.writing_Tables.{HasFittingColumns}
 
 -- ---- names of columns
 

@@ -170,7 +170,7 @@ EndsUnfailed e l = (e ≡ ending.Finished)
 -- The lines were run, in serial order, or memory was refused before the disk was touched. What stands
 -- of a script's run stands here: order, what a crash leaves, causes, and, where nothing fails, the end.
 -- Over a database a load that is finished tells the rows of the table `load` and their sum, as they
--- are behind all commits of the tape; else it tells none.
+-- are behind all that asked for a commit; else it tells none.
 pub record Loads {D : Type 0} (g : Ghosts D) (old : D) (lines : List Line) (o : Outcome D)
     : Type 0 where
   pub order : RunsInOrder g old lines (IsFinished o) o.left

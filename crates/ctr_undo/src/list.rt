@@ -1,5 +1,5 @@
 // What is left of undo.
-ghost use Rattle.std.specs.Prelude.{◌≡◌, IfOk, IfSome};
+ghost use Rattle.std.specs.Prelude.{◌≡◌, length, IfOk, IfSome};
 ghost use Rattle.ctr_area.specs.Images.{undo_size};
 ghost use Rattle.ctr_area.specs.Sound.{xids_in};
 ghost use Rattle.ctr_undo.specs.declared.list.UndoItem.{UndoItem};
@@ -60,6 +60,13 @@ impl UndoList {
         ensures { result ≡ left_in self.now }
     {
         self.items.len() + self.orphans.len()
+    }
+
+    /// How many items are left.
+    pub fn items_left(&self) -> usize
+        ensures { result ≡ length self.now.items }
+    {
+        self.items.len()
     }
 
     /// The items that are left, in the order of the secondary log.

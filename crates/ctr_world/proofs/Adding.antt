@@ -8,7 +8,7 @@ use Rattle.ctr_types.specs.declared.tape.Turn.{Turn}
 use Rattle.ctr_types.specs.declared.tape.Turn.TheVariants as turn
 use Rattle.ctr_disk.specs.declared.disk.Disk.{Ghosts}
 use Rattle.ctr_store.specs.Store.{View}
-use Rattle.ctr_exec.specs.declared.sessions.Sessions.{Sessions}
+use Rattle.ctr_pass.specs.exec_sessions_Sessions.{Sessions}
 use Rattle.ctr_world.specs.Held.{Held, Running}
 use Rattle.ctr_world.specs.Turns.{AddsEntries, EndsTurn, GoesByTurns}
 
@@ -37,13 +37,14 @@ adds_behind g P Q old mid new same first then =
     subst (λ (v : View _). AddsEntries (Both P Q) (g.moment_of v.disk) old new) (sym same) (adds_both P Q (g.moment_of mid.store.disk) old mid new first then)
 
 -- answers alone
-pub adds_answers : {D : Type 0} (g : Ghosts D) (Q : List Entry → Type 0) (old mid new : Running D) → new.store ≡ mid.store → mid.sessions ≡ old.sessions → AddsEntries Q (g.moment_of mid.store.disk) mid new → AddsEntries Q (g.moment_of new.store.disk) old new
-adds_answers g Q old mid new same still then = record {
+pub adds_answers : {D : Type 0} (g : Ghosts D) (Q : List Entry → Type 0) (old mid new : Running D) → new.store ≡ mid.store → mid.sessions.tape.items ≡ old.sessions.tape.items → mid.sessions.script ≡ old.sessions.script → AddsEntries Q (g.moment_of mid.store.disk) mid new
+    → AddsEntries Q (g.moment_of new.store.disk) old new
+adds_answers g Q old mid new same still script then = record {
   entries = then.entries;
-  tape = then.tape ∙ ap (λ (z : Sessions). z.tape.items ++ then.entries) still;
+  tape = then.tape ∙ ap (λ (es : List Entry). es ++ then.entries) still;
   are_such = then.are_such;
   moments = subst (λ (v : View _). AllByRecursion (λ (e : Entry). e.moment ≡ g.moment_of v.disk) then.entries) (sym same) then.moments;
-  script = then.script ∙ ap (λ (z : Sessions). z.script) still;
+  script = then.script ∙ script;
 }
 
 -- ---- a tape that grows, or stays

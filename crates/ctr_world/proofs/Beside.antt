@@ -19,16 +19,16 @@ use Rattle.ctr_store.specs.Store.{View}
 use Rattle.ctr_undo.specs.kept_Walk.{Mind}
 use Rattle.ctr_undo.specs.kept_Turns.{Start, point_now, start_point, state_now, release_entry}
 use Rattle.ctr_undo.specs.stops_World.{KeepsWorld}
-use Rattle.ctr_exec.specs.txn_Held.{IsOneOfEight}
+use Rattle.ctr_pass.specs.txn_Held.{IsOneOfEight}
 use Rattle.ctr_undo.specs.Left.{UndoLeft}
 use Rattle.ctr_undo.specs.Turns.{Undoes}
 use Rattle.ctr_undo.specs.Keeping.{list_of, undone_to, name_undone, released_to}
-use Rattle.ctr_exec.specs.ctr_session_world.World.{SessionsHeld, AreInOrder, AreInTables, InWorld, names_in}
-use Rattle.ctr_exec.specs.declared.runners.Runner.{Runner}
-use Rattle.ctr_exec.specs.declared.sessions.Sessions.{Sessions}
-use Rattle.ctr_exec.specs.Runners.{runner_at}
-use Rattle.ctr_exec.specs.Sessions.{IsReleased, IsSeatedAt, ShowsSessions, held_by}
-use Rattle.ctr_exec.proofs.Shown.{RowsStay, seat_still}
+use Rattle.ctr_pass.specs.session_world_World.{SessionsHeld, AreInOrder, AreInTables, InWorld, names_in}
+use Rattle.ctr_pass.specs.exec_Runner.{Runner}
+use Rattle.ctr_pass.specs.exec_sessions_Sessions.{Sessions}
+use Rattle.ctr_pass.specs.exec_Runners.{runner_at}
+use Rattle.ctr_pass.specs.exec_Sessions.{IsReleased, IsSeatedAt, ShowsSessions, held_by}
+use Rattle.ctr_pass.proofs.exec_Shown.{RowsStay, seat_still}
 use Rattle.ctr_world.proofs.Titles.{recovery_is_outside, locks_still, tables_still}
 
 module _ {D : Type 0} (g : Ghosts D) (c : Start) (opened : D) (a b : View D) (h : Sessions) (w : Mind) (v : UndoLeft) (before : ShowsSessions g c opened a h w) (does : Undoes (list_of w) v a.now b.now)

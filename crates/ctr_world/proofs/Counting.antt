@@ -18,9 +18,9 @@ use Rattle.ctr_undo.specs.page_turns_Turns.{RestsBehind}
 use Rattle.ctr_undo.specs.stops_World.{KeepsWorld}
 use Rattle.ctr_undo.specs.walk_Damage.{ReadsPages}
 use Rattle.ctr_store.specs.Store.{View, LeavesFront}
-use Rattle.ctr_exec.specs.ctr_session_world.World.{SessionsHeld, InWorld}
-use Rattle.ctr_exec.specs.Sessions.{OrFails, held_by}
-use Rattle.ctr_exec.proofs.ctr_session_world.Resting.{world_rests}
+use Rattle.ctr_pass.specs.session_world_World.{SessionsHeld, InWorld}
+use Rattle.ctr_pass.specs.exec_Sessions.{OrFails, held_by}
+use Rattle.ctr_pass.proofs.session_world_Resting.{world_rests}
 use Rattle.ctr_totals.specs.declared.counting.Totals.{Totals}
 use Rattle.ctr_totals.specs.Totals.{AreTotals}
 use Rattle.ctr_world.specs.declared.opening.Opening.{Ghosts as Opening}

@@ -18,7 +18,7 @@ use Rattle.ctr_undo.specs.kept_Turns.{start_point}
 use Rattle.ctr_undo.specs.stops_Stops.{Course, HasFirstCommits, KeepsCommits}
 use Rattle.ctr_store.specs.Store.{View, LeavesFront}
 use Rattle.ctr_undo.specs.Left.{left_in, IsOver as NoneIsLeft}
-use Rattle.ctr_exec.specs.Runners.{made_at, runner_at}
+use Rattle.ctr_pass.specs.exec_Runners.{made_at, runner_at}
 use Rattle.ctr_world.specs.declared.opening.Opening.{Ghosts as Opening}
 use Rattle.ctr_world.specs.Held.{Running, Held}
 use Rattle.ctr_world.specs.Opened.{IsRunLine}

@@ -9,7 +9,7 @@ use Rattle.ctr_base.specs.declared.growing.TheConstants.{MOST_PAGES}
 use Rattle.ctr_record_laws.proofs.Members.{among_parts}
 use Rattle.ctr_store.specs.Store.{View}
 use Rattle.ctr_undo.specs.kept_Turns.{release_entry}
-use Rattle.ctr_exec.specs.Acting.{WantsRoom}
+use Rattle.ctr_pass.specs.exec_Acting.{WantsRoom}
 use Rattle.ctr_world.specs.World.{FullCountsAll, IsFullEntry}
 
 up : {a b c : ℕ} → a ≤ b → b ≤ c → a ≤ c

@@ -21,11 +21,11 @@ use Rattle.ctr_undo.specs.stops_Stops.{LeavesPrefixAt, LeftSince}
 use Rattle.ctr_undo.specs.stops_World.{KeepsWorld, course_of}
 use Rattle.ctr_store.specs.Store.{View}
 use Rattle.ctr_undo.specs.Left.{left_in}
-use Rattle.ctr_exec.specs.ctr_session_world.Ready.{LeavesDisk, LeavesFrontOrGrows}
-use Rattle.ctr_exec.specs.Order.{StandInOrder}
+use Rattle.ctr_pass.specs.session_world_Ready.{LeavesDisk, LeavesFrontOrGrows}
+use Rattle.ctr_pass.specs.exec_Order.{StandInOrder}
 use Rattle.ctr_world.specs.declared.opening.Opening.{Ghosts as Opening}
 use Rattle.ctr_world.specs.Held.{Held, Running}
-use Rattle.ctr_world.specs.World.{IsReady, Shows, IsLegalTape, IsTapeOf, IsUndamaged, IsWornAt, LeavesPrefix, StopsBy, Kept, led_to, stop_by, start_in}
+use Rattle.ctr_world.specs.World.{IsReady, Shows, IsLegalTape, IsTapeOf, IsUndamaged, IsWornAt, KeepsPassIn, LeavesPrefix, StopsBy, Kept, led_to, stop_by, start_in}
 use Rattle.ctr_world.proofs.Quiet.{after}
 
 -- an image that stands for a database is sound
@@ -77,6 +77,7 @@ pub kept_worn : {D B : Type 0} (o : Opening B) (first : Image) (g : Ghosts D) (p
 kept_worn o first g p going worn kept = record {
   ready = λ none. absurd cc;
   shows = λ s tells stands none. absurd cc;
+  pass = λ s tells stands none. absurd cc;
   tape = kept.tape;
   legal = kept.legal;
   sized = kept.sized;
@@ -107,13 +108,14 @@ module _ {D B : Type 0} (o : Opening B) (first : Image) (g : Ghosts D) (p : Held
   none_met = subst (λ (q : Option Stop). StopsBy q o.faults (g.faults_of old.store.disk)) going kept.stops
 
   -- it was answered
-  pub kept_on : IsReady o g new → ((s : State) → IsTrue g.tells → IsSoundImage first → Shows o first g s old → Shows o first g s new) → g.faults_of new.store.disk ≡ g.faults_of old.store.disk
+  pub kept_on : IsReady o g new → ((s : State) → IsTrue g.tells → IsSoundImage first → Shows o first g s old → KeepsPassIn o s old → Shows o first g s new × KeepsPassIn o s new) → g.faults_of new.store.disk ≡ g.faults_of old.store.disk
       → Kept o first g (record p { running = new })
-  kept_on ready shows faults = record {
+  kept_on ready both faults = record {
     ready = λ none. ready;
-    shows = λ s tells stands none. shows s tells (sound_of first s stands) (kept.shows s tells stands going);
+    shows = λ s tells stands none. (now s tells stands).0;
+    pass = λ s tells stands none. (now s tells stands).1;
     tape = tape_of o g new lines_now ready;
-    legal = λ s tells stands. legal_of o first g s new (shows s tells (sound_of first s stands) (kept.shows s tells stands going));
+    legal = λ s tells stands. legal_of o first g s new (now s tells stands).0;
     sized = λ s tells stands. size ∙ kept.sized s tells stands;
     undamaged = λ s tells stands. subst IsUndamaged (sym going) tt;
     left = λ s tells stands stopped. absurd (stopped going);
@@ -125,9 +127,12 @@ module _ {D B : Type 0} (o : Opening B) (first : Image) (g : Ghosts D) (p : Held
     stops = subst (λ (q : Option Stop). StopsBy q o.faults (g.faults_of new.store.disk)) (sym going) (faults ∙ none_met);
     worn = subst (λ (q : Option Stop). IsWornAt q new) (sym going) tt;
   }
+    where
+      now : (s : State) → IsTrue g.tells → StandsForDatabase first s → Shows o first g s new × KeepsPassIn o s new
+      now s tells stands = both s tells (sound_of first s stands) (kept.shows s tells stands going) (kept.pass s tells stands going)
 
   -- it failed, and the World has stopped
-  module _ {T : Type 0} (e : StoreFault) (told : (s : State) → IsTrue g.tells → IsSoundImage first → Shows o first g s old → e ≡ Fault) (tape : new.sessions.tape.items ≡ old.sessions.tape.items) (count : left_in new.undo ≤ new.size)
+  module _ {T : Type 0} (e : StoreFault) (told : (s : State) → IsTrue g.tells → IsSoundImage first → Shows o first g s old → KeepsPassIn o s old → e ≡ Fault) (tape : new.sessions.tape.items ≡ old.sessions.tape.items) (count : left_in new.undo ≤ new.size)
       (law : LeavesTurns g) (disk : LeavesDisk {T = T} first g old.store new.store (Err e)) where
     stopped_by : (x : StoreFault) → HasFault {T = T} Fault (g.faults_of old.store.disk) (g.faults_of new.store.disk) (Err x) → StopsBy (Some (stop_by x)) o.faults (g.faults_of new.store.disk)
     stopped_by Fault faults = subst (λ n. CountsFault n (g.faults_of new.store.disk)) none_met (faults.failed refl)
@@ -137,6 +142,7 @@ module _ {D B : Type 0} (o : Opening B) (first : Image) (g : Ghosts D) (p : Held
     kept_stopped = record {
       ready = λ none. absurd cc;
       shows = λ s tells stands none. absurd cc;
+      pass = λ s tells stands none. absurd cc;
       tape = record {
         order = subst (StandInOrder o.lines (at_start o.start [] [])) (sym tape) kept.tape.order;
         later = after _ (g.moment_of old.store.disk) (g.moment_of new.store.disk) (subst (λ (es : List Entry). (final o.lines (at_start o.start [] []) es).moment ≤ g.moment_of old.store.disk) (sym tape) kept.tape.later) later;
@@ -146,7 +152,7 @@ module _ {D B : Type 0} (o : Opening B) (first : Image) (g : Ghosts D) (p : Held
         later = after _ (g.moment_of old.store.disk) (g.moment_of new.store.disk) (subst (λ (es : List Entry). (final o.lines (start_point (start_in o s)) es).moment ≤ g.moment_of old.store.disk) (sym tape) (kept.legal s tells stands).later) later;
       };
       sized = λ s tells stands. size ∙ kept.sized s tells stands;
-      undamaged = λ s tells stands. subst (λ (x : StoreFault). IsUndamaged (Some (stop_by x))) (sym (told s tells (sound_of first s stands) (kept.shows s tells stands going))) tt;
+      undamaged = λ s tells stands. subst (λ (x : StoreFault). IsUndamaged (Some (stop_by x))) (sym (told s tells (sound_of first s stands) (kept.shows s tells stands going) (kept.pass s tells stands going))) tt;
       left = λ s tells stands stopped.
           let shows = kept.shows s tells stands going in
           subst (LeavesPrefix o g s new.store.disk) (sym tape)

@@ -2,9 +2,9 @@
 use Rattle.std.proofs.Common.{◌≡◌, ◌≢◌, ℕ, ◌≤◌, true, false, List, sym, ◌∙◌, ap, subst}
 use Rattle.std.specs.List.{AllByRecursion}
 use Rattle.ctr_model.specs.State.{has_name}
-use Rattle.ctr_exec.specs.ctr_session_world.Ready.{StandOver}
-use Rattle.ctr_exec.specs.ctr_session_world.World.{NamesStay}
-use Rattle.ctr_exec.specs.Order.{Adds}
+use Rattle.ctr_pass.specs.session_world_Ready.{StandOver}
+use Rattle.ctr_pass.specs.session_world_World.{NamesStay}
+use Rattle.ctr_pass.specs.exec_Order.{Adds}
 use Rattle.ctr_types.specs.declared.tape.Entry.{Entry}
 use Rattle.ctr_disk.specs.declared.disk.Disk.{Ghosts}
 use Rattle.ctr_disk.specs.Image.{Image}
@@ -19,19 +19,20 @@ use Rattle.ctr_store.specs.Store.{View}
 use Rattle.ctr_undo.specs.Left.{UndoLeft}
 use Rattle.ctr_undo.specs.Turns.{MayUndo}
 use Rattle.ctr_undo.specs.Keeping.{list_of}
-use Rattle.ctr_exec.specs.declared.sessions.Sessions.{Sessions}
-use Rattle.ctr_exec.specs.Sessions.{AreSeated, LeadsTo}
+use Rattle.ctr_pass.specs.exec_sessions_Sessions.{Sessions}
+use Rattle.ctr_pass.specs.exec_Sessions.{AreSeated, LeadsTo}
 use Rattle.ctr_world.specs.declared.opening.Opening.{Ghosts as Opening}
 use Rattle.ctr_world.specs.Held.{Running}
 use Rattle.ctr_world.specs.World.{IsReady, Shows, start_in}
 use Rattle.ctr_world.specs.Turns.{AddsEntries}
 use Rattle.ctr_world.proofs.Filling.{full_behind}
+use Rattle.ctr_world.proofs.Passes.{place_more}
 
 -- ---- whatever the disk tells
 
 module _ {D B : Type 0} (o : Opening B) (g : Ghosts D) (old : Running D) (b : View D) (now : Sessions) (such : List Entry → Type 0) where
-  pub ready_led : IsReady o g old → StandOver now.txns b → b.stopped ≡ false → AreSeated now b.now.counted → Adds such (g.moment_of old.store.disk) (g.moment_of b.disk) old.sessions now → IsReady o g (record old { store = b; sessions = now })
-  ready_led ready stand going seats adds = record {
+  pub ready_led : IsReady o g old → old.store.now.counted ≤ b.now.counted → StandOver now.txns b → b.stopped ≡ false → AreSeated now b.now.counted → Adds such (g.moment_of old.store.disk) (g.moment_of b.disk) old.sessions now → IsReady o g (record old { store = b; sessions = now })
+  ready_led ready counted stand going seats adds = record {
     stand = stand;
     going = going;
     seats = seats;
@@ -42,6 +43,7 @@ module _ {D B : Type 0} (o : Opening B) (g : Ghosts D) (old : Running D) (b : Vi
     };
     count = ready.count;
     lines = ready.lines;
+    place = place_more old.store.now.counted b.now.counted counted old.pass.at ready.place;
   }
 
   pub adds_led : (before moment : ℕ) → Adds such before moment old.sessions now → AddsEntries such moment old (record old { store = b; sessions = now })

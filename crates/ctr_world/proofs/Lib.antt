@@ -2,6 +2,10 @@ mod Quiet
 pub mod Adding
 pub mod Refused
 mod Keeping
+mod Passes
+mod Cleaned
+mod Roomy
+mod Bare
 mod Filling
 mod Leading
 mod Whole
@@ -16,4 +20,5 @@ mod Stuck
 mod Going
 mod Undoing
 mod Nearer
-pub use Rattle.ctr_exec.proofs as ctr_exec
+pub use Rattle.ctr_pass.proofs.exec_Places as exec_Places
+pub use Rattle.ctr_pass.proofs.exec_Points as exec_Points

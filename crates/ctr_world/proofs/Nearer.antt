@@ -3,11 +3,11 @@ use Rattle.std.proofs.Common.{◌≡◌, ◌⊎◌, ⊎_elim, ℕ, ◌+◌, ◌-
 use Rattle.ctr_types.specs.declared.tape.Actor.TheVariants as who
 use Rattle.ctr_store.specs.Store.{View, turns_for_room}
 use Rattle.ctr_undo.specs.Left.{UndoLeft, left_in}
-use Rattle.ctr_exec.specs.declared.runners.Runner.{Runner}
-use Rattle.ctr_exec.specs.declared.sessions.Sessions.{Sessions}
-use Rattle.ctr_exec.specs.Runners.{all_left}
-use Rattle.ctr_exec.specs.Sessions.{turns_left}
-use Rattle.ctr_exec.proofs.Fewer.{acts_fall, few_rooms}
+use Rattle.ctr_pass.specs.exec_Runner.{Runner}
+use Rattle.ctr_pass.specs.exec_sessions_Sessions.{Sessions}
+use Rattle.ctr_pass.specs.exec_Runners.{all_left}
+use Rattle.ctr_pass.specs.exec_Sessions.{turns_left}
+use Rattle.ctr_pass.proofs.exec_Fewer.{acts_fall, few_rooms}
 use Rattle.ctr_world.specs.Held.{Running}
 use Rattle.ctr_world.specs.Turns.{AreAnswered, ComesNearer}
 

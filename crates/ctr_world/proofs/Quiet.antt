@@ -8,8 +8,8 @@ use Rattle.ctr_disk.specs.declared.disk.Disk.{Ghosts}
 use Rattle.ctr_disk.specs.Image.{Image}
 use Rattle.ctr_meta.specs.Kept.{TablesKept}
 use Rattle.ctr_names.specs.Held.{names_of_items}
-use Rattle.ctr_exec.specs.txn_Held.{TxnsHeld}
-use Rattle.ctr_exec.specs.txn_Rooms.{HasItemRoom}
+use Rattle.ctr_pass.specs.txn_Held.{TxnsHeld}
+use Rattle.ctr_pass.specs.txn_Rooms.{HasItemRoom}
 use Rattle.ctr_redo.specs.States.{State}
 use Rattle.ctr_record_effects.specs.States.{area_in}
 use Rattle.ctr_undo.specs.kept_Turns.{Start}
@@ -18,15 +18,16 @@ use Rattle.ctr_store.specs.Store.{View, KeepsRoom, LeavesFront, LeavesPage, Logs
 use Rattle.ctr_flush.specs.declared.flusher.FlushTurn.{FlushTurn}
 use Rattle.ctr_flush.specs.declared.flusher.FlushTurn.TheVariants.{Wrote, Idle, Short}
 use Rattle.ctr_flush.specs.Turns.{AnswersTurn, KeepsPages}
-use Rattle.ctr_exec.specs.ctr_session_world.Ready.{LeavesDisk, StandOver, StillOrLogs, Front}
-use Rattle.ctr_exec.proofs.ctr_session_world.Disks.{as_counted}
-use Rattle.ctr_exec.specs.ctr_session_world.World.{SessionsHeld, InWorld}
-use Rattle.ctr_exec.proofs.Going.{shows_behind}
-use Rattle.ctr_exec.specs.declared.sessions.Sessions.{Sessions}
-use Rattle.ctr_exec.specs.Order.{IsOrdered}
-use Rattle.ctr_exec.specs.Sessions.{AreSeated, OrFails, held_by}
+use Rattle.ctr_pass.specs.session_world_Ready.{LeavesDisk, StandOver, StillOrLogs, Front}
+use Rattle.ctr_pass.proofs.session_world_Disks.{as_counted}
+use Rattle.ctr_pass.specs.session_world_World.{SessionsHeld, InWorld}
+use Rattle.ctr_pass.proofs.exec_Going.{shows_behind}
+use Rattle.ctr_pass.specs.exec_sessions_Sessions.{Sessions}
+use Rattle.ctr_pass.specs.exec_Order.{IsOrdered}
+use Rattle.ctr_pass.specs.exec_Sessions.{AreSeated, OrFails, held_by}
 use Rattle.ctr_world.specs.declared.opening.Opening.{Ghosts as Opening}
 use Rattle.ctr_world.specs.Held.{Running}
+use Rattle.ctr_pass.specs.cursor_Standing.{IsCountedPosition}
 use Rattle.ctr_world.specs.World.{FullCountsAll, IsReady, Shows, start_in}
 
 -- who stands over a store does so over one with the same tables
@@ -62,6 +63,7 @@ module _ {D B : Type 0} (o : Opening B) (first : Image) (g : Ghosts D) (old : Ru
     held = record { named = ready.held.named; only = ready.held.only };
     count = ready.count;
     lines = ready.lines;
+    place = subst (λ n. IsCountedPosition n old.pass.at) (sym counted) ready.place;
   }
 
   pub ready_behind : KeepsRoom old.store b → b.stopped ≡ false → g.moment_of old.store.disk ≤ g.moment_of b.disk → IsReady o g old → IsReady o g behind

@@ -1,5 +1,5 @@
 -- A World as it was opened, before the first turn.
-use Rattle.std.proofs.Common.{◌≡◌, ℕ, zero, suc, ◌≤◌, true, IsTrue, List, [], ◌++◌, Ok, None, refl, sym, ◌∙◌, ap, subst}
+use Rattle.std.proofs.Common.{◌≡◌, ℕ, zero, suc, ◌≤◌, Bool, true, IsTrue, List, [], ◌++◌, Ok, None, refl, sym, ◌∙◌, ap, subst, arith}
 use Rattle.std.specs.Prelude.{⊤, drop, take}
 use Rattle.std.specs.List.{AllByRecursion}
 use Rattle.ctr_types.specs.declared.statement.Line.{Line}
@@ -9,6 +9,7 @@ use Rattle.ctr_disk.specs.Device.{LeavesOnly}
 use Rattle.ctr_disk.specs.Image.{Image}
 use Rattle.ctr_model.specs.State.{has_name}
 use Rattle.ctr_area.specs.Sound.{xids_in}
+use Rattle.ctr_meta.specs.Kept.{TablesKept}
 use Rattle.ctr_names.specs.Held.{names_of_items}
 use Rattle.ctr_rec.specs.declared.record.Record.{Record}
 use Rattle.ctr_redo.specs.States.{State, steps}
@@ -25,16 +26,24 @@ use Rattle.ctr_store.specs.StoreOpening.{OpensStore}
 use Rattle.ctr_undo.proofs.stops_Fronts.{take_none}
 use Rattle.ctr_undo.proofs.stops_Opened.{now_is}
 use Rattle.ctr_undo.specs.page_turns_Turns.{RestsBehind}
-use Rattle.ctr_exec.specs.declared.sessions.Sessions.{Sessions as SessionsAt}
-use Rattle.ctr_exec.specs.Sessions.{AreFresh, ShowsSessions}
+use Rattle.ctr_pass.specs.exec_sessions_Sessions.{Sessions as SessionsAt}
+use Rattle.ctr_pass.specs.exec_Sessions.{AreFresh, ShowsSessions}
+use Rattle.ctr_pass.specs.txn_Rooms.{HasItemRoom}
+use Rattle.ctr_pass.specs.cursor_Pass.{start}
+use Rattle.ctr_pass.specs.cursor_Standing.{IsCountedPosition}
+use Rattle.ctr_pass.specs.declared.pass.Pass.{Pass}
+use Rattle.ctr_pass.specs.declared.pass.Phase.TheVariants.{Calm}
+use Rattle.ctr_pass.specs.Keeping.{KeepsPass, PassedOver}
+use Rattle.ctr_pass.specs.Sparing.{keeping_room}
 use Rattle.ctr_world.specs.declared.beginning.Begun.{Begun}
 use Rattle.ctr_world.specs.declared.opening.Opening.{Ghosts as Opening}
 use Rattle.ctr_world.specs.Begun.{IsBegun, UndoesAll}
 use Rattle.ctr_world.specs.Held.{Running}
 use Rattle.ctr_world.specs.Opened.{CanRun, IsOpenedOn, IsRunLine}
-use Rattle.ctr_world.specs.World.{IsReady, Kept, Shows, start_in}
+use Rattle.ctr_world.specs.World.{IsReady, Kept, KeepsPassIn, Shows, passed_over, start_in}
 use Rattle.ctr_world.proofs.Keeping.{legal_of, sound_of, tape_of}
 use Rattle.ctr_world.proofs.Quiet.{after, at_once}
+use Rattle.ctr_world.proofs.Roomy.{room_for_one}
 use Rattle.ctr_world.proofs.Stuck.{named_itself}
 
 abbrev no_records : List Record
@@ -49,9 +58,9 @@ holds_all : (names stuck : List (List ℕ)) → stuck ≡ names → AllByRecursi
 holds_all names stuck is = subst (λ (l : List (List ℕ)). AllByRecursion (λ (n : List ℕ). has_name n l ≡ true) names) (sym is) (named_itself names)
 
 module _ {D B : Type 0} (o : Opening B) (first : Image) (g : Ghosts D) (disk : D) (script : Script) (named : IsOpenedOn o first g disk script.lines) (runs : CanRun script.lines) (v b : View D) (begun : Begun) (is : IsBegun v script begun)
-    (leaves : LeavesPage {T = ⊤} first g v b (Ok tt)) (later : g.moment_of disk ≤ g.moment_of v.disk) where
+    (leaves : LeavesPage {T = ⊤} first g v b (Ok tt)) (room : 1 ≤ v.meta.items_room) (later : g.moment_of disk ≤ g.moment_of v.disk) where
   abbrev pub new : Running D
-  new = record { store = b; sessions = begun.sessions; undo = begun.undo; names = begun.names.items; size = begun.size }
+  new = record { store = b; sessions = begun.sessions; undo = begun.undo; names = begun.names.items; size = begun.size; pass = begun.pass }
 
   start_later : o.start ≤ g.moment_of b.disk
   start_later = subst (λ n. n ≤ g.moment_of b.disk) (sym named.start) (after (g.moment_of disk) (g.moment_of v.disk) (g.moment_of b.disk) later leaves.time.later)
@@ -64,13 +73,18 @@ module _ {D B : Type 0} (o : Opening B) (first : Image) (g : Ghosts D) (disk : D
 
   ready : IsReady o g new
   ready = record {
-    stand = record { next = is.next ∙ sym (λ i. (leaves.keeps.meta i).tables.next); items = is.fresh.room b.meta };
+    stand = record {
+      next = is.next ∙ sym (λ i. (leaves.keeps.meta i).tables.next);
+      items = subst (λ (h : SessionsAt). HasItemRoom h.txns b.meta) (sym is.kept)
+          (room_for_one is.unkept is.fresh b.meta (subst (λ (k : TablesKept). 1 ≤ k.items_room) (sym leaves.keeps.meta) room));
+    };
     going = leaves.going;
     seats = is.seats b.now.counted;
     ordered = is.ordered o.start (g.moment_of b.disk) start_later;
     held = record { named = holds_all begun.names.items begun.sessions.stuck is.stuck; only = λ name has_. ap (has_name name) (sym is.stuck) ∙ has_ };
     count = is.count;
     lines = each;
+    place = subst (λ (p : Pass). IsCountedPosition b.now.counted p.at) (sym is.pass) (omega arith);
   }
 
   -- nothing was logged
@@ -102,6 +116,8 @@ module _ {D B : Type 0} (o : Opening B) (first : Image) (g : Ghosts D) (disk : D
       (begins : (lines : List Line) (image : Image) (s : State) (disk : D) (v : View D) → StandsForDatabase image s → OpensStore image v → LeavesOnly g disk v.disk (LeavesFirst image (g.images disk)) → LeavesFront g v v
       → KeepsWorld g (starting lines (g.moment_of disk) s) disk v (mind_at (site_of s)))
       (fresh : (c : Start) (opened : D) (v : View D) (h : SessionsAt) → KeepsWorld g c opened v (mind_at (site_of v.now)) → AreFresh h → h.script.lines ≡ c.lines → h.stuck ≡ c.stuck → ShowsSessions g c opened v h (mind_at (site_of v.now)))
+      (kept_room : (c : Start) (opened : D) (v : View D) (h : SessionsAt) (w : Mind) (item : Bool) → ShowsSessions g c opened v h w → ShowsSessions g c opened v (keeping_room item h) w)
+      (passes : (next : ℕ) (u : PassedOver) → u.next ≡ next → KeepsPass (record { at = start; next = next; seen = 0; phase = Calm }) u)
       (read : (c : Start) (opened : D) (a m : View D) (w : Mind) → KeepsWorld g c opened a w → RestsBehind g a m → KeepsWorld g c opened m w)
       (told : (s : State) → IsTrue g.tells → IsSoundImage first → Told s) where
     module _ (s : State) (tells : IsTrue g.tells) (stands : StandsForDatabase first s) where
@@ -126,26 +142,38 @@ module _ {D B : Type 0} (o : Opening B) (first : Image) (g : Ghosts D) (disk : D
           (subst (λ n. KeepsWorld g (starting o.lines n s) disk v (mind_at (site_of s))) (sym named.start) (begins o.lines first s disk v stands t.opens t.any_moment t.durable))
           (record { logs = leaves.logs tells sound; front = leaves.any_moment tells sound; rests = t.rests; later = leaves.time.later }))
 
-      stuck_so : begun.sessions.stuck ≡ (start_in o s).stuck
-      stuck_so = is.stuck ∙ all.names
+      abbrev kept_as : begun.sessions ≡ keeping_room true is.unkept
+      kept_as = is.kept
+
+      stuck_so : is.unkept.stuck ≡ (start_in o s).stuck
+      stuck_so = sym (ap (λ (h : SessionsAt). h.stuck) kept_as) ∙ is.stuck ∙ all.names
+
+      lines_so : is.unkept.script.lines ≡ o.lines
+      lines_so = sym (ap (λ (h : SessionsAt). h.script.lines) kept_as) ∙ lines_now
 
       shows : Shows o first g s new
       shows = record {
         opened = disk;
         on = record { image = named.image; before = named.before; start = named.start; faults = named.faults; lines_are = refl };
         mind = mind_at (site_of b.now);
-        shows = fresh (start_in o s) disk b begun.sessions keeps is.fresh lines_now stuck_so;
+        shows = subst (λ (h : SessionsAt). ShowsSessions g (start_in o s) disk b h (mind_at (site_of b.now))) (sym kept_as)
+            (kept_room (start_in o s) disk b is.unkept (mind_at (site_of b.now)) true (fresh (start_in o s) disk b is.unkept keeps is.fresh lines_so stuck_so));
         undo = λ i. record { items = (ap (λ (q : State). q.tables.items) now_so ∙ sym all.items) i; orphans = (ap (λ (q : State). xids_in q.tables.opens) now_so ∙ sym all.orphans) i };
         names = (λ i. names_of_items (area_in (now_so i)).title (all.items i)) ∙ sym all.names;
         numbered = ap (λ (q : State). q.tables.next) now_so;
         full = λ e in_ is. absurd in_;
       }
 
+      -- its pass is the first
+      pass : KeepsPassIn o s new
+      pass = subst (λ (p : Pass). KeepsPass p (passed_over o s new)) (sym is.pass) (passes v.next (passed_over o s new) leaves.keeps.next)
+
     -- it keeps what a World keeps
     pub kept_begun : g.faults_of b.disk ≡ g.faults_of disk → Kept o first g (record { running = new; stop = None })
     kept_begun faults = record {
       ready = λ none. ready;
       shows = λ s tells stands none. shows s tells stands;
+      pass = λ s tells stands none. pass s tells stands;
       tape = tape_of o g new lines_now ready;
       legal = λ s tells stands. legal_of o first g s new (shows s tells stands);
       sized = λ s tells stands. (all s tells stands).size;

@@ -26,14 +26,14 @@ use Rattle.ctr_undo.specs.kept_Undo.{IsUndoLeft}
 use Rattle.ctr_undo.specs.kept_Walk.{Mind}
 use Rattle.ctr_undo.specs.kept_Turns.{Start, KeepsRun, state_now}
 use Rattle.ctr_undo.proofs.kept_Walking.{keeps_reached}
-use Rattle.ctr_exec.specs.txn_Held.{TxnHeld, TxnsHeld, held_from, run_of}
+use Rattle.ctr_pass.specs.txn_Held.{TxnHeld, TxnsHeld, held_from, run_of}
 use Rattle.ctr_undo.specs.declared.list.UndoItem.{UndoItem}
 use Rattle.ctr_undo.specs.declared.list.UndoItem.TheVariants.{Slog, Orphan}
 use Rattle.ctr_undo.specs.Left.{UndoLeft, Goes}
 use Rattle.ctr_undo.specs.Turns.{DoesNext}
 use Rattle.ctr_undo.specs.Keeping.{list_of}
-use Rattle.ctr_exec.specs.ctr_session_world.World.{AreInTables, IsInTable, names_in}
-use Rattle.ctr_exec.proofs.ctr_session_world.Alike.{in_table_still}
+use Rattle.ctr_pass.specs.session_world_World.{AreInTables, IsInTable, names_in}
+use Rattle.ctr_pass.proofs.session_world_Alike.{in_table_still}
 
 -- sessions of a program are numbered from 1
 none_before : (n : ℕ) (os : List (Option TxnHeld)) → 0 < n → find nat_cmp 0 (held_from n os) ≡ None

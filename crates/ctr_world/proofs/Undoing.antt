@@ -10,8 +10,8 @@ use Rattle.ctr_disk.specs.declared.disk.Disk.{Ghosts}
 use Rattle.ctr_disk.specs.declared.fault.StoreFault.{StoreFault}
 use Rattle.ctr_disk.specs.Image.{Image}
 use Rattle.ctr_store.specs.Store.{LeavesFront, View}
-use Rattle.ctr_exec.specs.txn_Held.{TxnsHeld}
-use Rattle.ctr_exec.specs.txn_Rooms.{HasItemRoom, items_kept}
+use Rattle.ctr_pass.specs.txn_Held.{TxnsHeld}
+use Rattle.ctr_pass.specs.txn_Rooms.{HasItemRoom, items_kept}
 use Rattle.ctr_undo.specs.page_turns_Rooms.{AddsItems}
 use Rattle.ctr_undo.specs.page_turns_Turns.{LogsAtRest}
 use Rattle.ctr_undo.specs.declared.turning.UndoTurn.{UndoTurn}
@@ -19,12 +19,13 @@ use Rattle.ctr_undo.specs.declared.turning.UndoTurn.TheVariants.{Undone, Over}
 use Rattle.ctr_undo.specs.Left.{UndoLeft, left_in}
 use Rattle.ctr_undo.specs.Turns.{LogsNext, TakesNext, record_for}
 use Rattle.ctr_undo.proofs.Lists.{one_less}
-use Rattle.ctr_exec.specs.ctr_session_world.Ready.{LeavesDisk}
-use Rattle.ctr_exec.proofs.ctr_session_world.Disks.{disk_done, disk_failed, disk_one}
-use Rattle.ctr_exec.specs.declared.sessions.Sessions.{Sessions}
-use Rattle.ctr_exec.specs.Order.{IsOrdered}
-use Rattle.ctr_exec.specs.Runners.{all_left}
-use Rattle.ctr_exec.specs.Sessions.{AreSeated}
+use Rattle.ctr_pass.specs.session_world_Ready.{LeavesDisk}
+use Rattle.ctr_pass.proofs.session_world_Disks.{disk_done, disk_failed, disk_one}
+use Rattle.ctr_pass.specs.exec_sessions_Sessions.{Sessions}
+use Rattle.ctr_pass.specs.exec_Order.{IsOrdered}
+use Rattle.ctr_pass.specs.exec_Runners.{all_left}
+use Rattle.ctr_pass.specs.exec_Sessions.{AreSeated}
+use Rattle.ctr_pass.specs.cursor_Standing.{IsCountedPosition}
 use Rattle.ctr_world.specs.declared.opening.Opening.{Ghosts as Opening}
 use Rattle.ctr_world.specs.Held.{Running}
 use Rattle.ctr_world.specs.Opened.{IsRunLine}
@@ -110,6 +111,7 @@ module _ {D B : Type 0} (o : Opening B) (g : Ghosts D) (old : Running D) (b : Vi
         held = held;
         count = below (left_in v) (left_in old.undo) old.size less ready.count;
         lines = ready.lines;
+        place = subst (λ n. IsCountedPosition n old.pass.at) (sym counted) ready.place;
       }
     where
       below : (n m k : ℕ) → n ≤ m → m ≤ k → n ≤ k

@@ -25,8 +25,8 @@ use Rattle.ctr_undo.specs.Left.{UndoLeft, Goes}
 use Rattle.ctr_undo.specs.Turns.{MayUndo, Undoes}
 use Rattle.ctr_undo.specs.Keeping.{list_of, undone_to, released_to, IsOfTable, name_undone, names_undone, IsNameKept, IsNameReleased}
 use Rattle.ctr_undo.proofs.Lists.{some_in}
-use Rattle.ctr_exec.specs.declared.sessions.Sessions.{Sessions}
-use Rattle.ctr_exec.specs.Sessions.{IsReleased, ShowsSessions}
+use Rattle.ctr_pass.specs.exec_sessions_Sessions.{Sessions}
+use Rattle.ctr_pass.specs.exec_Sessions.{IsReleased, ShowsSessions}
 use Rattle.ctr_world.specs.declared.opening.Opening.{Ghosts as Opening}
 use Rattle.ctr_world.specs.Held.{Running}
 use Rattle.ctr_world.specs.World.{FullCountsAll, Shows, start_in}

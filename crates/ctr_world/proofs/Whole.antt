@@ -11,13 +11,13 @@ use Rattle.ctr_model.specs.declared.tape.Progress.{Progress}
 use Rattle.ctr_model.specs.Tape.{IsWhole, final, passed, passed_by, progress_of, statement_of, statements_of}
 use Rattle.ctr_legal.proofs.Answered.{order}
 use Rattle.ctr_versions.proofs.Keys.{known}
-use Rattle.ctr_exec.specs.txn_Held.{IsOneOfEight}
-use Rattle.ctr_exec.specs.declared.sessions.Sessions.{Sessions}
-use Rattle.ctr_exec.specs.Runners.{runner_at, made_at}
-use Rattle.ctr_exec.specs.Sessions.{AreSeated}
-use Rattle.ctr_exec.proofs.Places.{count_of}
-use Rattle.ctr_exec.proofs.Points.{progress_other}
-use Rattle.ctr_exec.proofs.Seats.{runner_here}
+use Rattle.ctr_pass.specs.txn_Held.{IsOneOfEight}
+use Rattle.ctr_pass.specs.exec_sessions_Sessions.{Sessions}
+use Rattle.ctr_pass.specs.exec_Runners.{runner_at, made_at}
+use Rattle.ctr_pass.specs.exec_Sessions.{AreSeated}
+use Rattle.ctr_pass.proofs.exec_Places.{count_of}
+use Rattle.ctr_pass.proofs.exec_Points.{progress_other}
+use Rattle.ctr_pass.proofs.exec_Seats.{runner_here}
 use Rattle.ctr_world.specs.Opened.{IsRunLine}
 use Rattle.ctr_world.specs.Turns.{HasStatementLeft}
 

@@ -20,7 +20,7 @@ use Rattle.ctr_undo.specs.stops_Stops.{HasFirstCommits}
 use Rattle.ctr_base.specs.declared.growing.TheConstants.{MOST_PAGES}
 use Rattle.ctr_base.specs.Opening.{FindsRoot}
 use Rattle.ctr_store.specs.Opening.{LogPasses, OverlaidPass, RefusesAs, worn_in}
-use Rattle.ctr_exec.specs.Runners.{IsUnbegun}
+use Rattle.ctr_pass.specs.exec_Runners.{IsUnbegun}
 use Rattle.std.specs.List.{AllByRecursion}
 use Rattle.ctr_world.specs.declared.opening.Opening.{Ghosts as Opening}
 use Rattle.ctr_world.specs.Held.{Held}

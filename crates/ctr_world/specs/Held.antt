@@ -2,19 +2,21 @@
 use Rattle.std.specs.Prelude.{ℕ, List, Option}
 use Rattle.ctr_disk.specs.declared.fault.Stop.{Stop}
 use Rattle.ctr_store.specs.Store.{View}
+use Rattle.ctr_pass.specs.declared.pass.Pass.{Pass}
 use Rattle.ctr_undo.specs.Left.{UndoLeft}
-use Rattle.ctr_exec.specs.declared.sessions.Sessions.{Sessions}
+use Rattle.ctr_pass.specs.exec_sessions_Sessions.{Sessions}
 use Rattle.ctr_world.specs.declared.engine.Engine.{Engine}
 use Rattle.ctr_world.specs.declared.parts.Parts.{Parts}
 
 -- The store, the sessions at the script's statements with the tape, what is left of undo with the
--- names of its tables, and how large the undo of the start was.
+-- names of its tables, how large the undo of the start was, and the cleaner's pass.
 pub record Running (D : Type 0) : Type 0 where
   pub store : View D
   pub sessions : Sessions
   pub undo : UndoLeft
   pub names : List (List ℕ)
   pub size : ℕ
+  pub pass : Pass
 
 -- that, and why the World stopped, if it did
 pub record Held (D : Type 0) : Type 0 where
@@ -29,6 +31,7 @@ running e = record {
   undo = e.undo;
   names = e.names.items;
   size = e.size;
+  pass = e.pass;
 }
 
 -- a World, with why it stopped

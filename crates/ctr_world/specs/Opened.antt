@@ -5,7 +5,7 @@ use Rattle.ctr_types.specs.declared.statement.Line.{Line}
 use Rattle.ctr_disk.specs.declared.disk.Disk.{Ghosts}
 use Rattle.ctr_disk.specs.Crash.{Within}
 use Rattle.ctr_disk.specs.Image.{Image}
-use Rattle.ctr_exec.specs.ctr_writing.Tables.{HasFittingColumns}
+use Rattle.ctr_pass.specs.writing_Tables.{HasFittingColumns}
 use Rattle.ctr_world.specs.declared.opening.Opening.{Ghosts as Opening}
 
 -- The disk and the lines are those that the World's type names.

@@ -13,15 +13,16 @@ use Rattle.ctr_model.specs.State.{has_name}
 use Rattle.ctr_store.specs.Store.{turns_for_room}
 use Rattle.ctr_flush.specs.declared.flusher.FlushTurn.TheVariants.{Wrote}
 use Rattle.ctr_flush.specs.Turns.{AnswersTurn, IsIdle, IsShort}
-use Rattle.ctr_exec.specs.txn_Held.{IsOneOfEight}
+use Rattle.ctr_pass.specs.txn_Held.{IsOneOfEight}
 use Rattle.ctr_undo.specs.declared.list.UndoItem.{UndoItem}
 use Rattle.ctr_undo.specs.declared.list.UndoItem.TheVariants.{Slog, Orphan}
 use Rattle.ctr_undo.specs.Left.{left_in, IsOver as NoneIsLeft}
-use Rattle.ctr_exec.specs.declared.sessions.Sessions.{Sessions}
-use Rattle.ctr_exec.specs.Order.{IsReleaseEntry}
-use Rattle.ctr_exec.specs.Runners.{runner_at}
-use Rattle.ctr_exec.specs.Sessions.{AreAnswers, AreOfTurn, IsReleased, turns_left}
+use Rattle.ctr_pass.specs.exec_sessions_Sessions.{Sessions}
+use Rattle.ctr_pass.specs.exec_Order.{IsReleaseEntry}
+use Rattle.ctr_pass.specs.exec_Runners.{runner_at}
+use Rattle.ctr_pass.specs.exec_Sessions.{AreAnswers, AreOfTurn, IsReleased, turns_left}
 use Rattle.ctr_world.specs.Held.{Running, Held}
+use Rattle.ctr_world.specs.Cleaning.{CleansOn, IsIdlePass}
 
 -- a session has a statement that isn't finished
 pub record HasStatementLeft (s : ℕ) (h : Sessions) : Type 0 where
@@ -44,14 +45,14 @@ abbrev pub AreReleases : List Entry → Type 0
 AreReleases es = (length es ≤ 1) × AllByRecursion IsReleaseEntry es
 
 -- The entries of a turn: of a session's act, or answers; of undo's item; and behind these the
--- answers of all commits that it made durable. The flusher answers alone.
+-- answers of all commits that it made durable. The flusher and the cleaner answer alone.
 abbrev pub AreBy : Actor → List Entry → Type 0
 AreBy (actor.Session s) es = (own : List Entry) × (answers : List Entry) × (es ≡ own ++ answers)
     × AreOfTurn s own × AreAnswers answers
 AreBy actor.Undo es = (own : List Entry) × (answers : List Entry) × (es ≡ own ++ answers)
     × AreReleases own × AreAnswers answers
 AreBy actor.Flusher es = AreAnswers es
-AreBy actor.Cleaner es = es ≡ []
+AreBy actor.Cleaner es = AreAnswers es
 
 -- The last of some names goes, and is told, where it isn't among the others.
 abbrev pub LastGoes : List (List ℕ) → List (List ℕ) → Option (List ℕ) → Type 0
@@ -104,15 +105,15 @@ abbrev pub WritesBehind : {D : Type 0} → Running D → Running D → Type 0
 WritesBehind old new = AnswersTurn old.store new.store (Ok Wrote) × AreAnswered new
 
 -- What an actor's turn that isn't over does: it brings the actor nearer to its end, where others take
--- none, and by a turn of undo no session gets further from its own; and behind it all commits that are
--- durable are answered.
+-- none, and by a turn of undo no session gets further from its own; or the cleaner's pass goes on; and
+-- behind it all commits that are durable are answered.
 abbrev pub ComesNearer : {D : Type 0} → Actor → Running D → Running D → Type 0
 ComesNearer (actor.Session s) old new =
     (turns_left new.sessions new.store < turns_left old.sessions old.store) × AreAnswered new
 ComesNearer actor.Undo old new = (undo_left new < undo_left old)
     × (turns_left new.sessions new.store < turns_left old.sessions old.store) × AreAnswered new
 ComesNearer actor.Flusher old new = WritesBehind old new
-ComesNearer actor.Cleaner old new = ⊥
+ComesNearer actor.Cleaner old new = CleansOn old new × AreAnswered new
 
 -- nothing is left to do for a session, whose statements are finished, or for undo
 abbrev pub NoneLeft : {D : Type 0} → Actor → Running D → Type 0
@@ -121,13 +122,13 @@ NoneLeft actor.Undo w = NoneIsLeft w.undo
 NoneLeft actor.Flusher w = ⊥
 NoneLeft actor.Cleaner w = ⊥
 
--- a session that goes has a statement that isn't finished, and undo something that is left; what the
--- flusher found is told with what it did
+-- a session that goes has a statement that isn't finished, undo something that is left, and the
+-- cleaner a pass that isn't idle; what the flusher found is told with what it did
 abbrev pub HasTurnLeft : {D : Type 0} → Actor → Running D → Type 0
 HasTurnLeft (actor.Session s) w = HasStatementLeft s w.sessions
 HasTurnLeft actor.Undo w = NoneIsLeft w.undo → ⊥
 HasTurnLeft actor.Flusher w = Unit {0}
-HasTurnLeft actor.Cleaner w = ⊥
+HasTurnLeft actor.Cleaner w = IsIdlePass w → ⊥
 
 -- all sessions are over, and nothing is left of undo
 pub record IsOver {D : Type 0} (w : Held D) : Type 0 where
@@ -135,12 +136,12 @@ pub record IsOver {D : Type 0} (w : Held D) : Type 0 where
   pub undo : NoneIsLeft w.running.undo
 
 -- nothing is due for the flusher, where there is nothing to write and no new generation of the log is
--- due; there is no cleaner yet, so nothing is ever due for it
+-- due; and for the cleaner where its pass is idle
 abbrev pub NoneDue : {D : Type 0} → Actor → Running D → Type 0
 NoneDue (actor.Session s) w = ⊥
 NoneDue actor.Undo w = ⊥
 NoneDue actor.Flusher w = IsIdle w.store
-NoneDue actor.Cleaner w = Unit {0}
+NoneDue actor.Cleaner w = IsIdlePass w
 
 -- The flusher alone falls short, where a new generation is due, for which memory was refused, and there
 -- is nothing to write.
@@ -207,3 +208,11 @@ FlusherEnds old new turn.Idle = NoneDue actor.Flusher old × TellsNothing old ne
 FlusherEnds old new turn.Short = FallsShort actor.Flusher old × TellsNothing old new
 FlusherEnds old new turn.Over = ⊥
 FlusherEnds old new turn.Stopped = ⊥
+
+-- How a turn of the cleaner ends: it is idle where its pass is.
+abbrev pub CleanerEnds : {D : Type 0} → Running D → Running D → Turn → Type 0
+CleanerEnds old new turn.Went = CleansOn old new × AreAnswered new × (IsIdlePass old → ⊥)
+CleanerEnds old new turn.Idle = IsIdlePass old × TellsNothing old new
+CleanerEnds old new turn.Short = ⊥
+CleanerEnds old new turn.Over = ⊥
+CleanerEnds old new turn.Stopped = ⊥

@@ -1,5 +1,5 @@
 -- What a World on pages keeps between any two turns.
-use Rattle.std.specs.Prelude.{◌≡◌, ◌≢◌, ℕ, ◌-◌, ◌^◌, ◌≤◌, true, false, IsTrue, List, [], Option, Some, None}
+use Rattle.std.specs.Prelude.{◌≡◌, ◌≢◌, ℕ, ◌-◌, ◌^◌, ◌≤◌, true, false, IsTrue, List, [], length, Option, Some, None}
 use Rattle.std.specs.List.{AllByRecursion}
 use Rattle.ctr_types.specs.Faults.{CountsFault}
 use Rattle.ctr_disk.specs.declared.disk.Disk.{Ghosts}
@@ -27,11 +27,14 @@ use Rattle.ctr_undo.specs.kept_Turns.{Start, start_point}
 use Rattle.ctr_undo.specs.kept_Walk.{Mind}
 use Rattle.ctr_undo.specs.stops_Stops.{LeavesPrefixAt, LeftSince}
 use Rattle.ctr_undo.specs.stops_World.{starting}
-use Rattle.ctr_undo.specs.Left.{left_in}
+use Rattle.ctr_undo.specs.Left.{left_in, IsOver}
 use Rattle.ctr_undo.specs.Keeping.{list_of}
-use Rattle.ctr_exec.specs.ctr_session_world.Ready.{StandOver}
-use Rattle.ctr_exec.specs.Order.{IsOrdered, StandInOrder}
-use Rattle.ctr_exec.specs.Sessions.{AreSeated, ShowsSessions}
+use Rattle.ctr_pass.specs.session_world_Ready.{StandOver}
+use Rattle.ctr_pass.specs.exec_Order.{IsOrdered, StandInOrder}
+use Rattle.ctr_pass.specs.exec_Sessions.{AreSeated, ShowsSessions}
+use Rattle.ctr_pass.specs.cursor_Standing.{IsCountedPosition}
+use Rattle.ctr_pass.specs.Keeping.{PassedOver, KeepsPass}
+use Rattle.ctr_pass.specs.Sparing.{IsNobodyInside}
 use Rattle.ctr_world.specs.declared.opening.Opening.{Ghosts as Opening}
 use Rattle.ctr_world.specs.Held.{Running, Held}
 use Rattle.ctr_world.specs.Opened.{IsOpenedOn, IsRunLine}
@@ -49,7 +52,7 @@ pub record HoldsLeft {D : Type 0} (w : Running D) : Type 0 where
 
 -- Each actor may take its turn: the sessions are seated over the store, which isn't stopped; the
 -- tape stands in order; recovery holds the names of what is left of undo, which is no more than there
--- was; and the lines are those of a script that can be run.
+-- was; the lines are those of a script that can be run; and what the cleaner's pass is at is there.
 pub record IsReady {D B : Type 0} (o : Opening B) (g : Ghosts D) (w : Running D) : Type 0 where
   pub stand : StandOver w.sessions.txns w.store
   pub going : w.store.stopped ≡ false
@@ -58,6 +61,7 @@ pub record IsReady {D B : Type 0} (o : Opening B) (g : Ghosts D) (w : Running D)
   pub held : HoldsLeft w
   pub count : left_in w.undo ≤ w.size
   pub lines : AllByRecursion IsRunLine o.lines
+  pub place : IsCountedPosition w.store.now.counted w.pass.at
 
 -- The tape stands in the order of the script, and its last entry isn't later than now.
 pub record IsTapeOf {B : Type 0} (o : Opening B) (now : ℕ) (es : List Entry) : Type 0 where
@@ -112,6 +116,25 @@ stop_by (Damaged d) = stop.Damaged d
 abbrev pub led_to : {B : Type 0} → Opening B → State → List Entry → Point
 led_to o s es = final o.lines (start_point (start_in o s)) es
 
+-- over what the cleaner's pass is kept, of a database in this state
+abbrev pub passed_over : {D B : Type 0} → Opening B → State → Running D → PassedOver
+passed_over o s w = record {
+  state = w.store.now;
+  next = w.store.next;
+  tape = w.sessions.tape.items;
+  led = (led_to o s w.sessions.tape.items).state;
+  undos = length w.undo.items;
+}
+
+-- what is known of the cleaner's pass, of a database in this state
+abbrev pub KeepsPassIn : {D B : Type 0} → Opening B → State → Running D → Type 0
+KeepsPassIn o s w = KeepsPass w.pass (passed_over o s w)
+
+-- By the tape no session is in a transaction, and nothing is left of undo.
+pub record IsQuiet {D B : Type 0} (o : Opening B) (s : State) (w : Running D) : Type 0 where
+  pub nobody : IsNobodyInside (led_to o s w.sessions.tape.items).state
+  pub over : IsOver w.undo
+
 -- the rows that a tape has led to: those of the start, with all that asked for a commit
 abbrev pub rows_asked : {B : Type 0} → Opening B → State → List Entry → Database
 rows_asked o s es = after_all (led_to o s es).state.asked (led_to o s es).state.base
@@ -144,6 +167,8 @@ pub record Kept {D B : Type 0} (o : Opening B) (first : Image) (g : Ghosts D) (w
     pub ready : w.stop ≡ None → IsReady o g w.running
     pub shows : (s : State) → IsTrue g.tells → StandsForDatabase first s → w.stop ≡ None
         → Shows o first g s w.running
+    pub pass : (s : State) → IsTrue g.tells → StandsForDatabase first s → w.stop ≡ None
+        → KeepsPassIn o s w.running
     pub tape : IsTapeOf o (g.moment_of w.running.store.disk) w.running.sessions.tape.items
     pub legal : (s : State) → IsTrue g.tells → StandsForDatabase first s
         → IsLegalTape o s (g.moment_of w.running.store.disk) w.running.sessions.tape.items

@@ -3,16 +3,15 @@ ghost use Rattle.std.specs.Prelude.{◌≡◌, ◌≤◌, ◌<◌, ℕ, false, I
 ghost use Rattle.ctr_record_effects.specs.Standing.{IsDatabaseState};
 ghost use Rattle.ctr_base.specs.Base.{WhereSound};
 ghost use Rattle.ctr_store.specs.Opening.{IsUndamaged};
-ghost use Rattle.ctr_undo.specs.walk_Damage.{ReadsPages};
-ghost use Rattle.ctr_exec.specs.Order.{IsOrdered};
-ghost use Rattle.ctr_exec.specs.Sessions.{AreFresh, AreSeated};
+ghost use Rattle.ctr_pass.specs.exec_Order.{IsOrdered};
+ghost use Rattle.ctr_pass.specs.exec_Sessions.{AreFresh, AreSeated};
 ghost use Rattle.ctr_world.specs.Opened.{CanRun};
-ghost use Rattle.ctr_world.specs.Begun.{IsBegun, IsOfReading, UndoesAll, read_by, refused_by};
+ghost use Rattle.ctr_world.specs.Begun.{IsBegun, IsOfReading, LeavesRoomy, UndoesAll, refused_by};
 
 use ctr_base::Origin;
 use ctr_disk::Disk;
-use ctr_exec::Sessions;
 use ctr_log::OpenError;
+use ctr_pass::{Pass, Sessions, room_for_the_cleaner_leaves_the_sessions};
 use ctr_store::Store;
 use ctr_types::{List, Name, OutOfMemory, Script, Xid, copy_all};
 use ctr_undo::{NamesRefusal, UndoList};
@@ -27,6 +26,8 @@ pub(crate) struct Begun {
     pub(crate) names: Vec<Name>,
     /// How much undo there is.
     pub(crate) size: usize,
+    /// The cleaner's first pass.
+    pub(crate) pass: Pass,
 }
 
 // Why the names weren't given, as an opening tells it.
@@ -58,8 +59,8 @@ fn sessions_of(
     Sessions::new(alloc, next, stuck, script)
 }
 
-/// What a World has beside a store that was opened for it, before the first turn: the sessions of a script, and undo with its names, which are
-/// read from the catalog.
+/// What a World has beside a store that was opened for it, before the first turn: the sessions of a script, undo with its names, which are
+/// read from the catalog, and the cleaner's pass. Room is taken for the one item of the secondary log that the cleaner may add.
 pub(crate) fn begin<D: Disk, O: Origin>(
     alloc: Global,
     store: &mut Store<D, O>,
@@ -69,11 +70,16 @@ pub(crate) fn begin<D: Disk, O: Origin>(
     requires runs { CanRun script.lines }
     ensures begun { IfOk result (IsBegun store.old script) }
     ensures whole { WhereSound O.first D.Disk (IsDatabaseState store.old.now → IfOk result (UndoesAll store.old.now)) }
-    ensures leaves { ReadsPages O.first D.Disk store.old store.new (read_by result) }
+    ensures leaves { LeavesRoomy O.first D.Disk store.old store.new result }
     ensures undamaged { WhereSound O.first D.Disk (IsDatabaseState store.old.now → IfErr result IsUndamaged) }
     ensures reading { IfErr result IsOfReading }
 {
+    room_for_the_cleaner_leaves_the_sessions::<D>();
+    let room = store.reserve(0, 1);
     store.rests();
+    if room.is_err() {
+        return Err(OpenError::OutOfMemory);
+    }
     let undo = match UndoList::of(alloc, store.meta()) {
         Ok(undo) => undo,
         Err(OutOfMemory) => return Err(OpenError::OutOfMemory),
@@ -83,12 +89,15 @@ pub(crate) fn begin<D: Disk, O: Origin>(
         Ok(names) => names,
         Err(refusal) => return Err(refused(refusal)),
     };
-    let sessions = sessions_of(alloc, next, names.as_slice(), script)?;
+    let mut sessions = sessions_of(alloc, next, names.as_slice(), script)?;
+    sessions.txns.keep_cleaners(true);
     let size = undo.len();
+    let pass = Pass::new(store.next());
     Ok(Begun {
         sessions,
         undo,
         names,
         size,
+        pass,
     })
 }

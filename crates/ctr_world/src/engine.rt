@@ -8,11 +8,12 @@ ghost use Rattle.ctr_redo.specs.States.{State};
 ghost use Rattle.ctr_store.specs.Store.{HasTurnRoom, turns_for_room};
 ghost use Rattle.ctr_flush.specs.Turns.{AnswersTurn, KeepsPages};
 ghost use Rattle.ctr_undo.specs.Left.{UndoLeft, Goes, left_in};
-ghost use Rattle.ctr_exec.specs.ctr_session_world.Ready.{LeavesDisk};
-ghost use Rattle.ctr_exec.specs.ctr_session_world.World.{SessionsHeld, InWorld};
-ghost use Rattle.ctr_exec.specs.Order.{IsOrdered};
-ghost use Rattle.ctr_exec.specs.Sessions.{AreAnswers, AreOfTurn, AreSeated, OrFails, turns_left};
+ghost use Rattle.ctr_pass.specs.session_world_Ready.{LeavesDisk};
+ghost use Rattle.ctr_pass.specs.session_world_World.{SessionsHeld, InWorld};
+ghost use Rattle.ctr_pass.specs.exec_Order.{IsOrdered};
+ghost use Rattle.ctr_pass.specs.exec_Sessions.{AreAnswers, AreOfTurn, AreSeated, OrFails, turns_left};
 ghost use Rattle.ctr_world.specs.Held.{running};
+ghost use Rattle.ctr_world.specs.Cleaning.{LeavesPass};
 ghost use Rattle.ctr_totals.specs.Totals.{AreTotals};
 ghost use Rattle.ctr_model.specs.Database.{after_all};
 ghost use Rattle.ctr_undo.specs.kept_Turns.{state_now};
@@ -26,10 +27,8 @@ use crate::names::name_gone;
 use crate::opening::Opening;
 use ctr_base::Origin;
 use ctr_disk::{Disk, StoreFault};
-use ctr_exec::Sessions;
-use ctr_exec::control::{flush, make_room};
-use ctr_exec::session_world::pages_that_are_read_keep_a_world;
 use ctr_flush::{FlushTurn, a_sound_state_can_be_listed, turn as flush_store};
+use ctr_pass::{Pass, Sessions, flush, make_room, pages_that_are_read_keep_a_world};
 use ctr_store::Store;
 use ctr_tally::Steps;
 use ctr_totals::{Totals, totals};
@@ -54,11 +53,13 @@ pub(crate) struct Engine<D: Disk, B: Origin> {
     pub(crate) names: Vec<Name>,
     /// How much undo there was at the start: the items, and the transactions that were open.
     pub(crate) size: usize,
+    /// The cleaner's pass.
+    pub(crate) pass: Pass,
 }
 
 impl<D: Disk, B: Origin + Opening> Engine<D, B> {
     // All commits that are durable are answered.
-    fn answer(&mut self)
+    pub(crate) fn answer(&mut self)
         requires ready { IsReady B.Opening D.Disk (running self.old) }
         ensures ready { IsReady B.Opening D.Disk (running self.new) }
         ensures shows { (s : State) → WhereSound B.first D.Disk (Shows B.Opening B.first D.Disk s (running self.old) → Shows B.Opening B.first D.Disk s (running self.new)) }
@@ -147,6 +148,8 @@ impl<D: Disk, B: Origin + Opening> Engine<D, B> {
         ensures one { OnOk result (left_in self.new.undo + 1 ≡ left_in self.old.undo) }
         ensures fewer { OnOk result (turns_left self.new.sessions self.new.store < turns_left self.old.sessions self.old.store) }
         ensures left { (self.new.size ≡ self.old.size) × (left_in self.new.undo ≤ left_in self.old.undo) }
+        ensures logs { OnOk result (self.new.store.next ≡ self.old.store.next + 1) }
+        ensures pass { self.new.pass ≡ self.old.pass }
         ensures disk { LeavesDisk B.first D.Disk self.old.store self.new.store result }
     {
         a_name_is_released_with_its_last_item();
@@ -168,7 +171,7 @@ impl<D: Disk, B: Origin + Opening> Engine<D, B> {
     }
 
     // Behind a turn that logged nothing all commits that are durable are answered.
-    fn made_room(&mut self) -> Result<(), StoreFault>
+    pub(crate) fn made_room(&mut self) -> Result<(), StoreFault>
         requires ready { IsReady B.Opening D.Disk (running self.old) }
         requires short { HasTurnRoom self.old.store → ⊥ }
         ensures ready { OnOk result (IsReady B.Opening D.Disk (running self.new)) }
@@ -226,6 +229,7 @@ impl<D: Disk, B: Origin + Opening> Engine<D, B> {
         ensures adds { AddsUnlessFails (AreBy who.Undo) (D.moment_of self.new.store.disk) (running self.old) (running self.new) result }
         ensures nearer { OnOk result (ComesNearer who.Undo (running self.old) (running self.new)) }
         ensures left { (self.new.size ≡ self.old.size) × (left_in self.new.undo ≤ left_in self.old.undo) }
+        ensures pass { OnOk result (LeavesPass (running self.old) (running self.new)) }
         ensures disk { LeavesDisk B.first D.Disk self.old.store self.new.store result }
     {
         if !self.store.room() {

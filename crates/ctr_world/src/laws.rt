@@ -8,12 +8,12 @@ ghost use Rattle.ctr_undo.specs.stops_World.{KeepsWorld};
 ghost use Rattle.ctr_undo.specs.Left.{UndoLeft};
 ghost use Rattle.ctr_undo.specs.Turns.{Undoes};
 ghost use Rattle.ctr_undo.specs.Keeping.{list_of, undone_to, name_undone, released_to};
-ghost use Rattle.ctr_exec.specs.declared.sessions.Sessions.{Sessions as SessionsAt};
-ghost use Rattle.ctr_exec.specs.Sessions.{IsReleased, ShowsSessions};
+ghost use Rattle.ctr_pass.specs.exec_sessions_Sessions.{Sessions as SessionsAt};
+ghost use Rattle.ctr_pass.specs.exec_Sessions.{IsReleased, ShowsSessions};
 
 use ctr_disk::Disk;
-use ctr_exec::writing::what_a_write_counts_on_stays;
 use ctr_model::{legal_states_are_sound, snapshots_stay};
+use ctr_pass::what_a_write_counts_on_stays;
 
 /// A turn of undo leaves each session where it is, whatever it is in the middle of, where the turn keeps the World: its transaction and its
 /// locks are as they were, and so is what it counts on. With the last item of a table's name recovery releases that on the sessions' tape, and

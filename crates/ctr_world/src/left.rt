@@ -1,8 +1,9 @@
-// Which sessions have statements left.
+// Which sessions have statements left, and which are in a transaction.
 ghost use Rattle.std.specs.Prelude.{◌≡◌, ◌≤◌, ◌<◌, ℕ, length, true, false, None, IfSome};
+ghost use Rattle.ctr_pass.specs.txn_Held.{txn_of};
 ghost use Rattle.ctr_world.specs.Turns.{HasStatementLeft};
 
-use ctr_exec::Sessions;
+use ctr_pass::{Sessions, Txns};
 
 /// Whether a session has a statement that isn't finished.
 pub(crate) fn has_left(sessions: &Sessions, s: u8) -> bool
@@ -31,4 +32,20 @@ pub(crate) fn first_left(sessions: &Sessions, s: u8) -> Option<u8>
         return Some(s);
     }
     first_left(sessions, s + 1)
+}
+
+/// Whether no session from this one on is in a transaction.
+pub(crate) fn nobody_inside(txns: &Txns, s: u8) -> bool
+    requires from { (1 ≤ s) × (s ≤ 9) }
+    ensures none { result ≡ true → (q : ℕ) → s ≤ q → txn_of q txns.now ≡ None }
+    ensures some { ((q : ℕ) → txn_of q txns.now ≡ None) → result ≡ true }
+{
+    txns.counts_sessions();
+    if s > 8 {
+        return true;
+    }
+    match txns.txn(s) {
+        Some(_) => false,
+        None => nobody_inside(txns, s + 1),
+    }
 }

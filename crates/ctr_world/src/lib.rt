@@ -1,8 +1,9 @@
-//! The World on pages: it steps the sessions of a script, recovery's undo and the flusher over the store of a disk, and keeps
-//! the tape.
+//! The World on pages: it steps the sessions of a script, recovery's undo, the flusher and the cleaner over the store of a disk, and
+//! keeps the tape.
 #![tactic(auto)]
 
 mod beginning;
+mod cleaning;
 mod engine;
 mod laws;
 mod left;

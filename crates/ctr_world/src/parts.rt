@@ -2,7 +2,7 @@
 ghost use Rattle.std.specs.Prelude.{◌≡◌, ◌≢◌, ◌≤◌, ◌<◌, ◌-◌, ◌^◌, ℕ, [], true, false, None};
 ghost use Rattle.ctr_types.specs.declared.tape.Actor.TheVariants as who;
 ghost use Rattle.ctr_types.specs.declared.tape.Turn.TheVariants.{Went, Stopped};
-ghost use Rattle.ctr_exec.specs.Sessions.{turns_left};
+ghost use Rattle.ctr_pass.specs.exec_Sessions.{turns_left};
 ghost use Rattle.ctr_world.specs.Held.{held};
 ghost use Rattle.ctr_world.specs.World.{Kept, stop_by};
 ghost use Rattle.ctr_base.specs.Base.{WhereSound};
@@ -14,7 +14,7 @@ use crate::left::{first_left, has_left};
 use crate::opening::Opening;
 use ctr_base::Origin;
 use ctr_disk::{Disk, Stop, StoreFault};
-use ctr_exec::session_world::a_turn_that_ends_leaves_a_prefix;
+use ctr_pass::{a_pass_is_kept_beside_others, a_turn_that_ends_leaves_a_prefix};
 use ctr_totals::Totals;
 use ctr_types::{Actor, Turn};
 use std::alloc::Global;
@@ -91,6 +91,7 @@ impl<D: Disk, B: Origin + Opening> Parts<D, B> {
             return self.wear();
         }
         a_turn_that_ends_leaves_a_prefix::<D>();
+        a_pass_is_kept_beside_others();
         match self.engine.serve(alloc, s) {
             Ok(()) => Turn::Went,
             Err(fault) => {
@@ -114,6 +115,7 @@ impl<D: Disk, B: Origin + Opening> Parts<D, B> {
             return self.wear();
         }
         a_turn_that_ends_leaves_a_prefix::<D>();
+        a_pass_is_kept_beside_others();
         match self.engine.undo(alloc, next) {
             Ok(()) => Turn::Went,
             Err(fault) => {
@@ -134,7 +136,28 @@ impl<D: Disk, B: Origin + Opening> Parts<D, B> {
             return self.wear();
         }
         a_turn_that_ends_leaves_a_prefix::<D>();
+        a_pass_is_kept_beside_others();
         match self.engine.write_behind(alloc) {
+            Ok(turn) => turn,
+            Err(fault) => {
+                self.stop = Some(stop_by(fault));
+                Turn::Stopped
+            }
+        }
+    }
+
+    // A turn of the cleaner.
+    fn clean(&mut self) -> Turn
+        requires going { self.old.stop ≡ None }
+        requires kept { Kept B.Opening B.first D.Disk (held self.old) }
+        ensures kept { Kept B.Opening B.first D.Disk (held self.new) }
+        ensures says { EndsTurn D.Disk result who.Cleaner (held self.old) (held self.new) }
+    {
+        if self.is_worn() {
+            return self.wear();
+        }
+        a_turn_that_ends_leaves_a_prefix::<D>();
+        match self.engine.clean() {
             Ok(turn) => turn,
             Err(fault) => {
                 self.stop = Some(stop_by(fault));
@@ -155,7 +178,7 @@ impl<D: Disk, B: Origin + Opening> Parts<D, B> {
         match actor {
             Actor::Session(s) => self.serve(alloc, s),
             Actor::Flusher => self.write_behind(alloc),
-            Actor::Cleaner => Turn::Idle,
+            Actor::Cleaner => self.clean(),
             Actor::Undo => self.undo(alloc),
         }
     }
@@ -203,6 +226,7 @@ impl<D: Disk, B: Origin + Opening> Parts<D, B> {
             return;
         }
         a_turn_that_ends_leaves_a_prefix::<D>();
+        a_pass_is_kept_beside_others();
         match self.engine.settle() {
             Ok(()) => {}
             Err(fault) => {
@@ -225,6 +249,7 @@ impl<D: Disk, B: Origin + Opening> Parts<D, B> {
             return Totals::NONE;
         }
         a_turn_that_ends_leaves_a_prefix::<D>();
+        a_pass_is_kept_beside_others();
         match self.engine.count() {
             Ok(totals) => totals,
             Err(fault) => {

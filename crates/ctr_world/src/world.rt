@@ -8,10 +8,14 @@ ghost use Rattle.ctr_base.specs.Base.{WhereSound};
 ghost use Rattle.ctr_store.specs.Opening.{IsUndamaged};
 ghost use Rattle.ctr_store.specs.StoreOpening.{OpensStore};
 ghost use Rattle.ctr_undo.specs.Left.{left_in};
-ghost use Rattle.ctr_exec.specs.Order.{IsOrdered};
-ghost use Rattle.ctr_exec.specs.Runners.{AreRunners, runner_at};
+ghost use Rattle.ctr_pass.specs.exec_Order.{IsOrdered};
+ghost use Rattle.ctr_pass.specs.exec_Runners.{AreRunners, runner_at};
 ghost use Rattle.ctr_world.specs.Opened.{IsOpenedOn, CanRun};
-ghost use Rattle.ctr_world.specs.World.{IsTapeOf, StopsBy};
+ghost use Rattle.ctr_area.specs.Sound.{IsBare};
+ghost use Rattle.ctr_record_effects.specs.States.{area_in};
+ghost use Rattle.ctr_types.specs.declared.tape.Actor.TheVariants.{Cleaner};
+ghost use Rattle.ctr_types.specs.declared.tape.Turn.TheVariants.{Idle};
+ghost use Rattle.ctr_world.specs.World.{IsQuiet, IsTapeOf, StopsBy};
 ghost use Rattle.ctr_world.specs.Turns.{HasStatementLeft, EndsTurn, FinishesBy};
 ghost use Rattle.ctr_world.specs.Counted.{CountsLoaded};
 ghost use Rattle.ctr_world.specs.Ended.{Ends, EndsInOrder, IsUnbegunWorld, PassesOpening, RefusesWith, RefusesWorld};
@@ -22,9 +26,12 @@ use crate::opening::Opening;
 use crate::parts::Parts;
 use ctr_base::Origin;
 use ctr_disk::{Disk, Stop};
-use ctr_exec::session_world::pages_that_are_read_keep_a_world;
-use ctr_exec::{Sessions, a_script_begins_in_a_world};
 use ctr_log::OpenError;
+use ctr_pass::{
+    Sessions, a_pass_begins, a_script_begins_in_a_world, an_idle_pass_leaves_it_bare,
+    nobody_inside_locks_nothing, pages_that_are_read_keep_a_world,
+    room_for_the_cleaner_leaves_the_sessions,
+};
 use ctr_store::Store;
 use ctr_totals::Totals;
 use ctr_types::{Actor, Entry, List, Script, Tape, Turn};
@@ -95,8 +102,10 @@ impl<D: Disk, B: Origin + Opening> World<D, B> {
             Ok(store) => store,
             Err(refused) => return Err(refused),
         };
+        a_pass_begins();
         a_script_begins_in_a_world::<D>();
         a_world_begins::<D>();
+        room_for_the_cleaner_leaves_the_sessions::<D>();
         pages_that_are_read_keep_a_world::<D>();
         match begin(alloc, &mut store, script) {
             Ok(begun) => {
@@ -109,6 +118,7 @@ impl<D: Disk, B: Origin + Opening> World<D, B> {
                             undo: begun.undo,
                             names: begun.names,
                             size: begun.size,
+                            pass: begun.pass,
                         },
                         stop: None,
                     },
@@ -162,7 +172,12 @@ impl<D: Disk, B: Origin + Opening> World<D, B> {
     /// A turn of an actor. After a stop it does nothing.
     pub fn step(&mut self, alloc: Global, actor: Actor) -> Turn
         ensures says { EndsTurn D.Disk result actor self.old self.new }
+        // The cleaner is idle, while no session is in a transaction and undo is over, only where nothing is left to clean.
+        ensures bare { (s : State) → IsTrue D.tells → StandsForDatabase B.first s → actor ≡ Cleaner → result ≡ Idle → IsQuiet B.Opening s self.old.running
+            → IsBare self.old.running.store.now.tables (area_in self.old.running.store.now) }
     {
+        an_idle_pass_leaves_it_bare();
+        nobody_inside_locks_nothing::<D>();
         self.parts.step(alloc, actor)
     }
 
@@ -196,6 +211,7 @@ impl<D: Disk, B: Origin + Opening> World<D, B> {
             undo,
             names: _,
             size,
+            pass: _,
         } = engine;
         let undone = size - undo.len();
         let Sessions { tape, .. } = sessions;

@@ -1,6 +1,6 @@
 use Rattle.std.proofs.Common.{sym, ◌∙◌, ap, subst}
 use Rattle.ctr_types.specs.declared.tape.Actor.TheVariants as actor
-use Rattle.ctr_world.specs.ctr_exec.Runners.{runner_at}
+use Rattle.ctr_world.specs.exec_Runners.{runner_at}
 use Rattle.ctr_world.specs.Turns.{EndsTurn}
 use Rattle.ctr_run.proofs.Between.{begins, goes_next, over, stops_here}
 use Rattle.ctr_run.proofs.lines.run_statement.Goals as goal

@@ -2,7 +2,7 @@ use Rattle.std.proofs.Common.{◌≡◌, ℕ, Some}
 use Rattle.std.specs.Prelude.{slice_get}
 use Rattle.std.specs.List.{AllByRecursion}
 use Rattle.ctr_types.specs.declared.statement.Line.{Line}
-use Rattle.ctr_world.specs.ctr_exec.Sessions.{turns_left}
+use Rattle.ctr_world.specs.exec_Sessions.{turns_left}
 use Rattle.ctr_world.specs.Opened.{IsRunLine}
 use Rattle.ctr_run.specs.Lines.{RanOrStopped}
 use Rattle.ctr_run.proofs.Between.{Goes}

@@ -1,8 +1,8 @@
 use Rattle.std.proofs.Common.{◌∙◌, ap}
 use Rattle.ctr_undo.specs.page_turns_Turns.{RestsBehind}
 use Rattle.ctr_store.specs.Checkpoints.{checkpoint_need}
-use Rattle.ctr_exec.specs.ctr_session_world.World.{InWorld}
-use Rattle.ctr_exec.proofs.ctr_session_world.Resting.{world_rests}
+use Rattle.ctr_pass.specs.session_world_World.{InWorld}
+use Rattle.ctr_pass.proofs.session_world_Resting.{world_rests}
 use Rattle.ctr_world.proofs.Quiet.{world_flushed}
 use Rattle.ctr_world.proofs.engine.write_next.Goals as goal
 

@@ -1,4 +1,4 @@
-use Rattle.ctr_exec.proofs.Going.{sound_in}
+use Rattle.ctr_pass.proofs.exec_Going.{sound_in}
 use Rattle.ctr_world.proofs.Beside.{shows_kept, shows_released}
 use Rattle.ctr_world.proofs.laws.undo_leaves_the_sessions.Goals as goal
 

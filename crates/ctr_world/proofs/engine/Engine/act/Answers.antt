@@ -1,5 +1,5 @@
-use Rattle.ctr_exec.proofs.ctr_session_world.Disks.{disk_done, disk_failed}
-use Rattle.ctr_exec.specs.Sessions.{AreOfTurn}
+use Rattle.ctr_pass.proofs.session_world_Disks.{disk_done, disk_failed}
+use Rattle.ctr_pass.specs.exec_Sessions.{AreOfTurn}
 use Rattle.ctr_world.specs.Held.{running}
 use Rattle.ctr_world.specs.World.{start_in}
 use Rattle.ctr_world.proofs.Leading.{adds_led, names_led, ready_led, shows_led}
@@ -9,7 +9,7 @@ pub returns-in-Ok-clause-ready : goal.returns-in-Ok-clause-ready
 returns-in-Ok-clause-ready g c =
     let w = running c.args.self.now in
     let leaves = c.in-Ok.ensures.leaves in
-    ready_led g.B.Opening g.D.Disk w c.turn.new.store c.turn.new.self (AreOfTurn c.args.s) c.requires.ready leaves.stand leaves.going leaves.seats c.in-Ok.ensures.adds
+    ready_led g.B.Opening g.D.Disk w c.turn.new.store c.turn.new.self (AreOfTurn c.args.s) c.requires.ready leaves.counted leaves.stand leaves.going leaves.seats c.in-Ok.ensures.adds
 
 pub returns-in-Ok-clause-shows : goal.returns-in-Ok-clause-shows
 returns-in-Ok-clause-shows g c = λ s tells sound shows.

@@ -1,5 +1,5 @@
 use Rattle.std.proofs.Common.{refl}
-use Rattle.ctr_exec.specs.Sessions.{AreAnswers}
+use Rattle.ctr_pass.specs.exec_Sessions.{AreAnswers}
 use Rattle.ctr_world.specs.Held.{running}
 use Rattle.ctr_world.specs.World.{start_in}
 use Rattle.ctr_world.proofs.Leading.{adds_led, ready_led, shows_led}
@@ -12,7 +12,7 @@ returns-clause-ready g c =
     let w = running c.args.self.now in
     let ready = c.requires.ready in
     let now = g.D.Disk.moment_of w.store.disk in
-    ready_led g.B.Opening g.D.Disk w w.store c.answer.new.self AreAnswers ready (c.answer.ensures.over ready.stand) ready.going c.answer.ensures.seats (c.answer.ensures.adds now (at_once now))
+    ready_led g.B.Opening g.D.Disk w w.store c.answer.new.self AreAnswers ready (at_once w.store.now.counted) (c.answer.ensures.over ready.stand) ready.going c.answer.ensures.seats (c.answer.ensures.adds now (at_once now))
 
 pub returns-clause-shows : goal.returns-clause-shows
 returns-clause-shows g c = λ s tells sound shows.

@@ -1,4 +1,4 @@
-use Rattle.ctr_exec.proofs.ctr_session_world.Disks.{disk_read}
+use Rattle.ctr_pass.proofs.session_world_Disks.{disk_read}
 use Rattle.ctr_world.specs.Held.{running}
 use Rattle.ctr_world.specs.World.{start_in}
 use Rattle.ctr_world.proofs.Counting.{none_waits, ready_counted, shows_counted, totals_asked}

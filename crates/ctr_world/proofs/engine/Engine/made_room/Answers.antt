@@ -1,7 +1,7 @@
 use Rattle.std.specs.Prelude.{⊤, Ok, Err}
-use Rattle.ctr_exec.specs.Sessions.{turns_left}
-use Rattle.ctr_exec.proofs.Fewer.{rooms_fall}
-use Rattle.ctr_exec.proofs.ctr_session_world.Disks.{disk_page}
+use Rattle.ctr_pass.specs.exec_Sessions.{turns_left}
+use Rattle.ctr_pass.proofs.exec_Fewer.{rooms_fall}
+use Rattle.ctr_pass.proofs.session_world_Disks.{disk_page}
 use Rattle.ctr_world.specs.Held.{running}
 use Rattle.ctr_world.proofs.Nearer.{below}
 use Rattle.ctr_world.proofs.Quiet.{disk_answered, world_behind}

@@ -1,4 +1,4 @@
-use Rattle.ctr_exec.specs.Sessions.{AreAnswers, AreOfTurn, turns_left}
+use Rattle.ctr_pass.specs.exec_Sessions.{AreAnswers, AreOfTurn, turns_left}
 use Rattle.ctr_world.specs.Held.{running}
 use Rattle.ctr_world.proofs.Adding.{adds_behind}
 use Rattle.ctr_world.proofs.Nearer.{below}

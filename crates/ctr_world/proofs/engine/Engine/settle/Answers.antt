@@ -1,4 +1,4 @@
-use Rattle.ctr_exec.proofs.ctr_session_world.Disks.{disk_page}
+use Rattle.ctr_pass.proofs.session_world_Disks.{disk_page}
 use Rattle.ctr_world.specs.Held.{running}
 use Rattle.ctr_world.proofs.Quiet.{ready_or, shows_or}
 use Rattle.ctr_world.proofs.engine.Engine.settle.Goals as goal

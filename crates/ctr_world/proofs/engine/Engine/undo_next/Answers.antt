@@ -1,10 +1,10 @@
-use Rattle.std.proofs.Common.{◌<◌, Ok, sym, subst}
+use Rattle.std.proofs.Common.{◌≡◌, ◌+◌, ◌<◌, Ok, sym, subst}
 use Rattle.ctr_store.specs.Store.{View}
 use Rattle.ctr_undo.specs.Left.{UndoLeft}
 use Rattle.ctr_undo.specs.Turns.{EndsTurn, LogsNext, MayUndo, TakesNext}
 use Rattle.ctr_undo.specs.declared.turning.UndoTurn.{UndoTurn}
-use Rattle.ctr_exec.specs.Sessions.{turns_left}
-use Rattle.ctr_exec.proofs.Fewer.{numbers_fall}
+use Rattle.ctr_pass.specs.exec_Sessions.{turns_left}
+use Rattle.ctr_pass.proofs.exec_Fewer.{numbers_fall}
 use Rattle.ctr_world.specs.declared.engine.Engine.{Engine}
 use Rattle.ctr_world.specs.Held.{running}
 use Rattle.ctr_world.specs.World.{IsReady, Shows, start_in}
@@ -80,3 +80,10 @@ returns-in-Ok-Undone-clause-disk g c =
     let b = c.turn.new.store in
     disk_undone g.B.Origin.first g.D.Disk w.undo w.store b c.let_go.new.self.store (subst (λ (r : UndoTurn). LogsNext g.B.Origin.first g.D.Disk w.undo w.store b (Ok r)) c.in-Ok-Undone.field-0-is c.in-Ok-Undone.ensures.one)
     (λ i. (c.let_go.ensures.same i).store)
+
+pub returns-in-Ok-Undone-clause-logs : goal.returns-in-Ok-Undone-clause-logs
+returns-in-Ok-Undone-clause-logs g c =
+    let w = running c.args.self.now in
+    let b = c.turn.new.store in
+    subst (λ (v : View g.row.D.Denot). v.next ≡ w.store.next + 1) (sym (λ i. (c.let_go.ensures.same i).store))
+    (number_of g.B.Origin.first g.D.Disk w.undo w.store b (subst (λ (r : UndoTurn). LogsNext g.B.Origin.first g.D.Disk w.undo w.store b (Ok r)) c.in-Ok-Undone.field-0-is c.in-Ok-Undone.ensures.one)).next

@@ -1,5 +1,5 @@
-use Rattle.ctr_exec.proofs.ctr_session_world.Disks.{disk_done}
-use Rattle.ctr_exec.specs.Sessions.{AreAnswers}
+use Rattle.ctr_pass.proofs.session_world_Disks.{disk_done}
+use Rattle.ctr_pass.specs.exec_Sessions.{AreAnswers}
 use Rattle.ctr_world.specs.Held.{running}
 use Rattle.ctr_world.proofs.Adding.{adds_answers}
 use Rattle.ctr_world.proofs.Quiet.{disk_answered}
@@ -10,7 +10,7 @@ returns-in-Ok-Wrote-clause-shows g c = λ s tells sound shows. c.answer.ensures.
 
 pub returns-in-Ok-Wrote-clause-adds : goal.returns-in-Ok-Wrote-clause-adds
 returns-in-Ok-Wrote-clause-adds g c =
-    adds_answers g.D.Disk AreAnswers (running c.args.self.now) (running c.flush.new.self) (running c.answer.new.self) (λ i. (c.answer.ensures.same i).store) (λ i. (c.in-Ok-Wrote.ensures.same i).sessions) c.answer.ensures.adds
+    adds_answers g.D.Disk AreAnswers (running c.args.self.now) (running c.flush.new.self) (running c.answer.new.self) (λ i. (c.answer.ensures.same i).store) (λ i. (c.in-Ok-Wrote.ensures.same i).sessions.tape.items) (λ i. (c.in-Ok-Wrote.ensures.same i).sessions.script) c.answer.ensures.adds
 
 pub returns-in-Ok-Wrote-clause-disk : goal.returns-in-Ok-Wrote-clause-disk
 returns-in-Ok-Wrote-clause-disk g c =

@@ -1,5 +1,5 @@
 use Rattle.std.specs.Prelude.{◌≡◌, ◌≢◌, List, None}
-use Rattle.ctr_exec.specs.Sessions.{turns_left}
+use Rattle.ctr_pass.specs.exec_Sessions.{turns_left}
 use Rattle.ctr_world.specs.Held.{Held, held}
 use Rattle.ctr_world.specs.Turns.{GoesByTurns}
 use Rattle.ctr_world.specs.World.{Kept}

@@ -1,0 +1,122 @@
+// The turns of the cleaner in a World.
+ghost use Rattle.std.specs.Prelude.{◌≡◌, ◌<◌, ◌-◌, ◌^◌, ℕ, true, IfOk, OnOk};
+ghost use Rattle.ctr_base.specs.Base.{WhereSound};
+ghost use Rattle.ctr_redo.specs.States.{State};
+ghost use Rattle.ctr_store.specs.Store.{HasTurnRoom};
+ghost use Rattle.ctr_pass.specs.txn_Held.{txn_of};
+ghost use Rattle.ctr_pass.specs.session_world_Ready.{LeavesDisk};
+ghost use Rattle.ctr_pass.specs.exec_Sessions.{AreAnswers, OrFails};
+ghost use Rattle.ctr_world.specs.Held.{running};
+ghost use Rattle.ctr_world.specs.World.{IsReady, KeepsPassIn, Shows};
+ghost use Rattle.ctr_world.specs.Cleaning.{CleansHere, IsIdlePass, noted_pass};
+ghost use Rattle.ctr_world.specs.Turns.{AddsUnlessFails, CleanerEnds, TellsNothing};
+
+use crate::engine::Engine;
+use crate::left::nobody_inside;
+use crate::opening::Opening;
+use ctr_base::Origin;
+use ctr_disk::{Disk, StoreFault};
+use ctr_pass::{
+    MayEmpty, Pass, Sessions, a_pass_is_kept_beside_others, a_pass_is_kept_by_its_turn,
+    an_idle_pass_is_kept, clean_from, keeps_room, nobody_inside_locks_nothing,
+    pages_that_are_read_keep_a_world, room_for_the_cleaner_leaves_the_sessions,
+    what_was_cleaned_leaves_the_sessions,
+};
+use ctr_types::Turn;
+use ctr_undo::{a_turn_of_undo_is_kept, names_of_what_is_left_stay};
+
+/// What the cleaner may do in a table that is dead: a page may leave its chain while room is kept for an item of the cleaner's, and an entry is freed where
+/// nobody is in a transaction.
+fn may_empty(sessions: &Sessions) -> MayEmpty
+    ensures unlink { result.unlink ≡ sessions.now.txns.cleaner }
+    ensures free { result.free ≡ true → (s : ℕ) → txn_of s sessions.now.txns ≡ None }
+    ensures rest { ((s : ℕ) → txn_of s sessions.now.txns ≡ None) → result.free ≡ true }
+{
+    MayEmpty {
+        unlink: sessions.txns.keeps_cleaners(),
+        free: nobody_inside(&sessions.txns, 1),
+    }
+}
+
+impl<D: Disk, B: Origin + Opening> Engine<D, B> {
+    // A turn in the cleaner's pass, which isn't idle once it has looked at what happened since its last turn.
+    fn clean_next(&mut self, noted: Pass) -> Result<(), StoreFault>
+        requires ready { IsReady B.Opening D.Disk (running self.old) }
+        requires room { HasTurnRoom self.old.store × (self.old.store.next < 2 ^ 63 - 1) }
+        requires noted { noted ≡ noted_pass (running self.old) }
+        requires goes { IsIdlePass (running self.old) → ⊥ }
+        ensures ready { OnOk result (IsReady B.Opening D.Disk (running self.new)) }
+        ensures kept { (s : State) → WhereSound B.first D.Disk (Shows B.Opening B.first D.Disk s (running self.old) → KeepsPassIn B.Opening s (running self.old)
+            → OrFails (Shows B.Opening B.first D.Disk s (running self.new) × KeepsPassIn B.Opening s (running self.new)) result) }
+        ensures cleans { OnOk result (CleansHere (running self.old) (running self.new)) }
+        ensures same { self.new ≡ record self.old { store = self.new.store; sessions = record self.old.sessions { txns = self.new.sessions.txns }; pass = self.new.pass } }
+        ensures disk { LeavesDisk B.first D.Disk self.old.store self.new.store result }
+    {
+        a_pass_is_kept_by_its_turn();
+        a_turn_of_undo_is_kept::<D>();
+        names_of_what_is_left_stay();
+        nobody_inside_locks_nothing::<D>();
+        pages_that_are_read_keep_a_world::<D>();
+        room_for_the_cleaner_leaves_the_sessions::<D>();
+        what_was_cleaned_leaves_the_sessions::<D>();
+        let may = may_empty(&self.sessions);
+        let low = self.sessions.txns.low_mark(self.store.meta());
+        let stayed = self.pass.next == self.store.next();
+        let cleaned = clean_from(
+            &mut self.store,
+            &self.sessions.locks,
+            low,
+            self.undo.items_left(),
+            may,
+            self.pass.at,
+            stayed,
+        );
+        match cleaned {
+            Ok(went) => {
+                self.store.rests();
+                self.sessions
+                    .txns
+                    .keep_cleaners(keeps_room(may.unlink, went.did));
+                self.pass = noted.behind(went, may.unlink, self.store.next());
+                Ok(())
+            }
+            Err(fault) => Err(fault),
+        }
+    }
+
+    /// A turn of the cleaner: it is idle where its pass is; else a turn for room, where the store has none, or one in its pass. All commits that are
+    /// durable then are answered.
+    pub(crate) fn clean(&mut self) -> Result<Turn, StoreFault>
+        requires ready { IsReady B.Opening D.Disk (running self.old) }
+        requires number { self.old.store.next < 2 ^ 63 - 1 }
+        ensures ready { OnOk result (IsReady B.Opening D.Disk (running self.new)) }
+        ensures kept { (s : State) → WhereSound B.first D.Disk (Shows B.Opening B.first D.Disk s (running self.old) → KeepsPassIn B.Opening s (running self.old)
+            → OrFails (Shows B.Opening B.first D.Disk s (running self.new) × KeepsPassIn B.Opening s (running self.new)) result) }
+        ensures adds { AddsUnlessFails AreAnswers (D.moment_of self.new.store.disk) (running self.old) (running self.new) result }
+        ensures went { IfOk result (CleanerEnds (running self.old) (running self.new)) }
+        ensures same { self.new ≡ record self.old { store = self.new.store; sessions = self.new.sessions; pass = self.new.pass } }
+        ensures disk { LeavesDisk B.first D.Disk self.old.store self.new.store result }
+    {
+        a_pass_is_kept_beside_others();
+        an_idle_pass_is_kept();
+        let noted = self.pass.noted(self.store.next(), &self.sessions.tape);
+        if noted.is_idle() {
+            self.store.rests();
+            self.pass = noted;
+            return Ok(Turn::Idle);
+        }
+        if !self.store.room() {
+            return match self.made_room() {
+                Ok(()) => Ok(Turn::Went),
+                Err(fault) => Err(fault),
+            };
+        }
+        match self.clean_next(noted) {
+            Ok(()) => {
+                self.answer();
+                Ok(Turn::Went)
+            }
+            Err(fault) => Err(fault),
+        }
+    }
+}
