@@ -5,28 +5,8 @@
 //! with the file `stdout`.
 #![tactic(auto)]
 
-mod bare;
-mod cleaned;
-mod files;
-mod fitting;
-mod generated;
-mod judged;
-mod lines;
-mod lists;
-mod logged;
-mod looked;
-mod meetings;
-mod opened;
-mod page;
 mod player;
-mod printed;
-mod run;
 mod steps;
-mod stops;
-mod told;
-mod trouble;
-mod turns;
-mod undone;
 
 use ctr_suite::played;
 use player::Player;

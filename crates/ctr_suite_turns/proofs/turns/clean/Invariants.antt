@@ -1,5 +1,0 @@
-use Rattle.ctr_suite_turns.specs.Over.{AreOver}
-use Rattle.ctr_suite_turns.proofs.turns.clean.Given as goal
-
-abbrev pub invariant-loop : goal.invariant-loop
-invariant-loop l = AreOver l.sessions l.store

@@ -1,5 +1,0 @@
-use Rattle.ctr_suite_turns.specs.Over.{AreOver}
-use Rattle.ctr_suite_turns.proofs.turns.take_all.Given as goal
-
-abbrev pub invariant-loop-s : goal.invariant-loop-s
-invariant-loop-s g l = AreOver l.sessions l.store

@@ -1,5 +1,0 @@
-use Rattle.ctr_suite_turns.specs.Over.{AreOver}
-use Rattle.ctr_suite_turns.proofs.turns.take_order.Given as goal
-
-abbrev pub invariant-loop-digit : goal.invariant-loop-digit
-invariant-loop-digit g l = AreOver l.sessions l.store

@@ -1,4 +1,0 @@
-use Rattle.ctr_suite_turns.proofs.undone.+make_room.Given as goal
-
-abbrev pub decreases-make_room : goal.decreases-make_room
-decreases-make_room l = l.most

@@ -1,4 +1,0 @@
-use Rattle.ctr_suite_turns.proofs.undone.undo_over.Given as goal
-
-abbrev pub ghosts-take_list : goal.ghosts-take_list
-ghosts-take_list a = record { name = a.blank.name; parts = a.blank.parts }
