@@ -14,7 +14,7 @@ use Rattle.ctr_cleaner.specs.Finding.{HasNothingAt}
 use Rattle.ctr_pass.specs.declared.pass.Pass.{Pass}
 use Rattle.ctr_pass.specs.declared.pass.Phase.{Phase}
 use Rattle.ctr_pass.specs.declared.pass.Phase.TheVariants.{Disturbed, Calm, Idle}
-use Rattle.ctr_pass.specs.Keeping.{PassedOver, IsAtRest, HasPassed, IsInPhase, KeepsPass, StaysUnder, StaysOrLogs}
+use Rattle.ctr_pass.specs.Keeping.{PassedOver, HasNoneOpen, HasFoundNone, IsInPhase, KeepsPass, StaysUnder, StaysOrLogs}
 use Rattle.ctr_pass.specs.Passing.{some_end}
 use Rattle.ctr_pass.proofs.Enduring.{Endures, more_endures, was_outside}
 use Rattle.ctr_pass.proofs.Noted.{calm_says, calm_before}
@@ -32,7 +32,7 @@ module _ (leads : (y : Position) (s : Site) (more : ℕ) → next_position (reco
       subst (λ o. GoesBy (site_of (record s { counted = more })) o ps y) (sym (leads p (site_of s) more)) (goes_grown (next_position (site_of s) p) ps y goes.1),
     )
 
-    passed_grown : (to : Option Position) → HasPassed s to → HasPassed (record s { counted = more }) to
+    passed_grown : (to : Option Position) → HasFoundNone s to → HasFoundNone (record s { counted = more }) to
     passed_grown to has = record {
       passed = has.passed;
       goes = goes_grown (Some start) has.passed to has.goes;
@@ -48,7 +48,7 @@ module _ (leads : (y : Position) (s : Site) (more : ℕ) → next_position (reco
 
 -- all are at rest before entries by which no transaction ends, where they are behind them
 rest_before : (lines : List Line) (first : Point) (v u : PassedOver) (es : List Entry) → v.led ≡ (final lines first v.tape).state → u.led ≡ (final lines first u.tape).state
-    → u.tape ≡ v.tape ++ es → some_end es ≡ false → u.state ≡ record v.state { counted = u.state.counted } → IsAtRest u → IsAtRest v
+    → u.tape ≡ v.tape ++ es → some_end es ≡ false → u.state ≡ record v.state { counted = u.state.counted } → HasNoneOpen u → HasNoneOpen v
 rest_before lines first v u es led now grows still same rest = record {
   nobody = λ s. was_outside v.led u.led s endures (rest.nobody s);
   opens = sym (ap (λ (t : State). t.tables.opens) same) ∙ rest.opens;

@@ -23,18 +23,18 @@ use Rattle.ctr_pass.specs.declared.going.Went.{Went}
 use Rattle.ctr_pass.specs.declared.pass.Pass.{Pass}
 use Rattle.ctr_pass.specs.declared.pass.Phase.{Phase}
 use Rattle.ctr_pass.specs.declared.pass.Phase.TheVariants.{Disturbed, Calm, Idle}
-use Rattle.ctr_pass.specs.Keeping.{PassedOver, IsAtRest, HasPassed, IsInPhase, KeepsPass, TurnsUnder}
+use Rattle.ctr_pass.specs.Keeping.{PassedOver, HasNoneOpen, HasFoundNone, IsInPhase, KeepsPass, TurnsUnder}
 use Rattle.ctr_pass.specs.Passing.{noted, phase_over, pass_on, pass_behind}
 use Rattle.ctr_pass.proofs.Noted.{calm_says, undisturbed}
 
 -- a pass that begins has passed nothing
-pub begins : (s : State) → HasPassed s (Some start)
+pub begins : (s : State) → HasFoundNone s (Some start)
 begins s = record { passed = []; goes = refl; found = λ x in_. absurd in_ }
 
 -- A pass that has come to a position where there is nothing to do has come to the one behind it.
 further : (s : State) (x : Position) (y : Option Position)
     → ((z : Option Position) (passed : List Position) → GoesBy (site_of s) z passed (Some x) → GoesBy (site_of s) z (passed ++ x ∷ []) (next_position (site_of s) x))
-    → HasPassed s (Some x) → HasNothingAt (λ e key. Unit {0}) s.tables.next x s → next_position (site_of s) x ≡ y → HasPassed s y
+    → HasFoundNone s (Some x) → HasNothingAt (λ e key. Unit {0}) s.tables.next x s → next_position (site_of s) x ≡ y → HasFoundNone s y
 further s x y goes_on has here behind = record {
   passed = has.passed ++ x ∷ [];
   goes = subst (GoesBy (site_of s) (Some start) (has.passed ++ x ∷ [])) behind (goes_on (Some start) has.passed has.goes);
@@ -68,39 +68,39 @@ module _
     -- ---- there was nothing to do
 
     module _ (y : Option Position) (passes : PassesBy h w.from y v.state u.state) (unlogged : u.next ≡ v.next) where
-      rested : IsAtRest u → IsAtRest v
+      rested : HasNoneOpen u → HasNoneOpen v
       rested rest = record {
         nobody = λ s. ap (λ (q : ModelState). transaction_of q s) (sym turns.led) ∙ rest.nobody s;
         opens = ap (λ (t : State). t.tables.opens) (sym passes.same) ∙ rest.opens;
       }
 
       -- nothing was found so far, and nothing at this position
-      goes_further : h.may.unlink ≡ true → pass.phase ≡ Calm → IsAtRest u → HasPassed u.state y
+      goes_further : h.may.unlink ≡ true → pass.phase ≡ Calm → HasNoneOpen u → HasFoundNone u.state y
       goes_further may is rest =
           let was = undisturbed p v.next v.tape Calm (λ no. cc no) is in
           let still = rested rest in
           let heeds = turns.heeds still in
-          let has : HasPassed v.state (Some p.at) = subst (λ f. IsInPhase f v.undos p.at v.state) was.1 (keeps.phase was.0 still) in
+          let has : HasFoundNone v.state (Some p.at) = subst (λ f. IsInPhase f v.undos p.at v.state) was.1 (keeps.phase was.0 still) in
           let here = turns.from (calm_says p v.next v.tape was.0).0 in
           let none = alone h.locks h.low w.from v.state heeds.locks (passes.nothing (may, heeds.free)) in
-          subst (λ (s : State). HasPassed s y) (sym passes.same)
-          (further v.state w.from y (λ z passed. goes_on (site_of v.state) z w.from passed) (subst (λ x. HasPassed v.state (Some x)) (sym here) has)
+          subst (λ (s : State). HasFoundNone s y) (sym passes.same)
+          (further v.state w.from y (λ z passed. goes_on (site_of v.state) z w.from passed) (subst (λ x. HasFoundNone v.state (Some x)) (sym here) has)
           (subst (λ n. HasNothingAt (λ e key. Unit {0}) n w.from v.state) heeds.low none) passes.behind)
 
       free : HasNoFree u.undos u.state.tables
       free = subst (λ (s : State). HasNoFree u.undos s.tables) (sym passes.same) (subst (λ n. HasNoFree n v.state.tables) (turns.spared ∙ sym turns.undos) passes.free)
 
       -- it goes on to a position
-      phase_on : (f : Phase) (z : Position) → y ≡ Some z → pass.phase ≡ f → h.may.unlink ≡ true → IsAtRest u → IsInPhase f u.undos z u.state
+      phase_on : (f : Phase) (z : Position) → y ≡ Some z → pass.phase ≡ f → h.may.unlink ≡ true → HasNoneOpen u → IsInPhase f u.undos z u.state
       phase_on Disturbed z to is may rest = tt
-      phase_on Calm z to is may rest = subst (HasPassed u.state) to (goes_further may is rest)
+      phase_on Calm z to is may rest = subst (HasFoundNone u.state) to (goes_further may is rest)
       phase_on Idle z to is may rest = absurd (busy is)
 
       -- or is over
-      phase_back : (f : Phase) → y ≡ None → pass.phase ≡ f → IsAtRest u → IsInPhase (phase_over h.may.unlink f) u.undos start u.state
+      phase_back : (f : Phase) → y ≡ None → pass.phase ≡ f → HasNoneOpen u → IsInPhase (phase_over h.may.unlink f) u.undos start u.state
       phase_back Disturbed to is rest = begins u.state
       phase_back Calm to is rest = known h.may.unlink
-          (λ may. subst (λ b. IsInPhase (cond b Idle Calm) u.undos start u.state) (sym may) (subst (HasPassed u.state) to (goes_further may is rest), free))
+          (λ may. subst (λ b. IsInPhase (cond b Idle Calm) u.undos start u.state) (sym may) (subst (HasFoundNone u.state) to (goes_further may is rest), free))
           (λ no. subst (λ b. IsInPhase (cond b Idle Calm) u.undos start u.state) (sym no) (begins u.state))
       phase_back Idle to is rest = absurd (busy is)
 

@@ -33,7 +33,7 @@ pub record PassedOver : Type 0 where
   pub undos : ℕ
 
 -- Nobody is in a transaction, and none is open.
-pub record IsAtRest (v : PassedOver) : Type 0 where
+pub record HasNoneOpen (v : PassedOver) : Type 0 where
   pub nobody : (s : ℕ) → transaction_of v.led s ≡ None
   pub opens : v.state.tables.opens ≡ []
 
@@ -41,7 +41,7 @@ pub record IsAtRest (v : PassedOver) : Type 0 where
 
 -- From the start on a pass has come to this position, or to its end, and found nothing to do at
 -- any: whichever rows are locked, where everybody sees what is committed.
-pub record HasPassed (s : State) (to : Option Position) : Type 0 where
+pub record HasFoundNone (s : State) (to : Option Position) : Type 0 where
   pub passed : List Position
   pub goes : GoesBy (site_of s) (Some start) passed to
   pub found : (x : Position) → IsAmong x passed
@@ -52,8 +52,8 @@ pub record HasPassed (s : State) (to : Option Position) : Type 0 where
 -- nothing at all, and that no page but undo's waits to be free again.
 abbrev pub IsInPhase : Phase → ℕ → Position → State → Type 0
 IsInPhase Disturbed n at s = Unit {0}
-IsInPhase Calm n at s = HasPassed s (Some at)
-IsInPhase Idle n at s = HasPassed s None × HasNoFree n s.tables
+IsInPhase Calm n at s = HasFoundNone s (Some at)
+IsInPhase Idle n at s = HasFoundNone s None × HasNoFree n s.tables
 
 -- What is kept of a pass: it saw no more than there is. Its position is one of the state, where
 -- nothing was logged since. And where no transaction has ended either, then, once all are at rest,
@@ -62,7 +62,7 @@ pub record KeepsPass (p : Pass) (v : PassedOver) : Type 0 where
   pub before : p.next ≤ v.next
   pub seen : p.seen ≤ length v.tape
   pub stands : p.next ≡ v.next → IsPosition p.at (site_of v.state)
-  pub phase : is_calm p v.next v.tape ≡ true → IsAtRest v
+  pub phase : is_calm p v.next v.tape ≡ true → HasNoneOpen v
       → IsInPhase p.phase v.undos p.at v.state
 
 -- ---- what others do
@@ -94,7 +94,7 @@ pub record TurnsUnder (p : Pass) (h : Heeded) (w : Went) (v u : PassedOver) : Ty
   pub went : WentAs h v.state u.state w
   pub next : u.next ≡ next_cleaned w.did v.next
   pub spared : h.spared ≡ v.undos
-  pub heeds : IsAtRest v → HeedsNobody h v
+  pub heeds : HasNoneOpen v → HeedsNobody h v
   pub tape : u.tape ≡ v.tape
   pub led : u.led ≡ v.led
   pub undos : u.undos ≡ v.undos

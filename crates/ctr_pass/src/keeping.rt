@@ -12,7 +12,7 @@ ghost use Rattle.ctr_cleaner.specs.cursor_Pass.{start};
 ghost use Rattle.ctr_pass.specs.declared.going.Went.{Went};
 ghost use Rattle.ctr_pass.specs.declared.pass.Pass.{Pass as PassAt};
 ghost use Rattle.ctr_pass.specs.declared.pass.Phase.TheVariants.{Calm, Idle};
-ghost use Rattle.ctr_pass.specs.Keeping.{PassedOver, IsAtRest, KeepsPass, StaysOrLogs, TurnsUnder};
+ghost use Rattle.ctr_pass.specs.Keeping.{PassedOver, HasNoneOpen, KeepsPass, StaysOrLogs, TurnsUnder};
 ghost use Rattle.ctr_pass.specs.Passing.{noted, pass_behind};
 
 use ctr_cleaner::{
@@ -41,7 +41,7 @@ pub fn an_idle_pass_is_kept()
 
 /// Where a pass is idle, all are at rest, and no item is undo's, the pages are bare: nothing is left to clean.
 pub fn an_idle_pass_leaves_it_bare()
-    ensures { (p : PassAt) (v : PassedOver) → KeepsPass p v → (noted p v.next v.tape).phase ≡ Idle → IsAtRest v → v.undos ≡ 0 → IsDatabaseState v.state
+    ensures { (p : PassAt) (v : PassedOver) → KeepsPass p v → (noted p v.next v.tape).phase ≡ Idle → HasNoneOpen v → v.undos ≡ 0 → IsDatabaseState v.state
         → IsBare v.state.tables (area_in v.state) }
 {
     a_pass_that_finds_nothing_leaves_it_bare();

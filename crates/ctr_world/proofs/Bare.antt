@@ -1,5 +1,5 @@
 -- What an idle cleaner has left, where no session is in a transaction and nothing is left of undo.
-use Rattle.std.proofs.Common.{◌≡◌, ℕ, IsTrue, List, [], None, ◌∙◌, ap, subst}
+use Rattle.std.proofs.Common.{◌≡◌, IsTrue, List, [], None, ◌∙◌, ap, subst}
 use Rattle.std.specs.Prelude.{length}
 use Rattle.ctr_types.specs.declared.tape.Actor.{Actor}
 use Rattle.ctr_types.specs.declared.tape.Actor.TheVariants as actor
@@ -22,14 +22,14 @@ use Rattle.ctr_pass.specs.exec_sessions_Sessions.{Sessions}
 use Rattle.ctr_pass.specs.exec_Sessions.{ShowsSessions}
 use Rattle.ctr_pass.specs.declared.pass.Pass.{Pass}
 use Rattle.ctr_pass.specs.declared.pass.Phase.TheVariants.{Idle}
-use Rattle.ctr_pass.specs.Keeping.{IsAtRest, KeepsPass, PassedOver}
+use Rattle.ctr_pass.specs.Keeping.{HasNoneOpen, KeepsPass, PassedOver}
 use Rattle.ctr_pass.specs.Passing.{noted}
 use Rattle.ctr_pass.specs.Sparing.{IsNobodyInside}
 use Rattle.ctr_world.specs.declared.opening.Opening.{Ghosts as Opening}
 use Rattle.ctr_world.specs.Cleaning.{IsIdlePass}
 use Rattle.ctr_world.specs.Held.{Held, Running}
 use Rattle.ctr_world.specs.Turns.{EndsTurn}
-use Rattle.ctr_world.specs.World.{IsQuiet, Kept, Shows, led_to, passed_over, start_in}
+use Rattle.ctr_world.specs.World.{HasNobodyLeft, Kept, Shows, led_to, passed_over, start_in}
 
 -- the cleaner said that it is idle
 pub idle_of : {D : Type 0} (g : Ghosts D) (t : Turn) (a : Actor) (old new : Held D) → EndsTurn g t a old new → a ≡ actor.Cleaner → t ≡ turn.Idle → (old.stop ≡ None) × IsIdlePass old.running
@@ -39,15 +39,15 @@ idle_of g t a old new ends a_is t_is =
 
 module _ {D B : Type 0} (o : Opening B) (first : Image) (g : Ghosts D) (p : Held D) (kept : Kept o first g p) (going : p.stop ≡ None) (s : State) (tells : IsTrue g.tells) (stands : StandsForDatabase first s)
     (none_open : (c : Start) (opened : D) (v : View D) (h : Sessions) (w : Mind) → ShowsSessions g c opened v h w → IsNobodyInside (state_now c w) → w.undo.orphans ≡ [] → v.now.tables.opens ≡ [])
-    (leaves : (q : Pass) (v : PassedOver) → KeepsPass q v → (noted q v.next v.tape).phase ≡ Idle → IsAtRest v → v.undos ≡ 0 → IsDatabaseState v.state → IsBare v.state.tables (area_in v.state))
-    (quiet : IsQuiet o s p.running) where
+    (leaves : (q : Pass) (v : PassedOver) → KeepsPass q v → (noted q v.next v.tape).phase ≡ Idle → HasNoneOpen v → v.undos ≡ 0 → IsDatabaseState v.state → IsBare v.state.tables (area_in v.state))
+    (quiet : HasNobodyLeft o s p.running) where
   abbrev w : Running D
   w = p.running
 
   abbrev shows : Shows o first g s w
   shows = kept.shows s tells stands going
 
-  at_rest : IsAtRest (passed_over o s w)
+  at_rest : HasNoneOpen (passed_over o s w)
   at_rest = record {
     nobody = quiet.nobody;
     opens = none_open (start_in o s) shows.opened w.store w.sessions shows.mind shows.shows (λ q. subst (λ (es : List Entry). transaction_of (led_to o s es).state q ≡ None) shows.shows.tape (quiet.nobody q))

@@ -1,11 +1,10 @@
 -- A turn of the cleaner in a World.
-use Rattle.std.proofs.Common.{◌≡◌, ◌⊎◌, ⊎_elim, inl, inr, ℕ, ◌+◌, ◌<◌, ◌≤◌, Bool, true, false, List, [], Option, Some, None, Ok, refl, sym, ◌∙◌, ap, subst, arith}
+use Rattle.std.proofs.Common.{◌≡◌, ◌⊎◌, ⊎_elim, inl, inr, ℕ, ◌+◌, ◌<◌, ◌≤◌, Bool, true, false, List, [], None, Ok, refl, sym, ◌∙◌, ap, subst, arith}
 use Rattle.std.specs.Prelude.{IsTrue, length}
 use Rattle.ctr_types.specs.declared.tape.Entry.{Entry}
 use Rattle.ctr_disk.specs.declared.disk.Disk.{Ghosts}
 use Rattle.ctr_disk.specs.Image.{Image}
 use Rattle.ctr_base.specs.Base.{IsSoundImage}
-use Rattle.ctr_meta.specs.Tables.{Tables}
 use Rattle.ctr_model.specs.State.{transaction_of}
 use Rattle.ctr_locks.specs.Held.{session_locks}
 use Rattle.ctr_names.specs.Held.{names_of_items}
@@ -15,7 +14,6 @@ use Rattle.ctr_record_effects.specs.Standing.{IsDatabaseState}
 use Rattle.ctr_actions.specs.Actions.{Action}
 use Rattle.ctr_store.specs.Store.{LeavesFront, View}
 use Rattle.ctr_undo.specs.kept_Turns.{Start, state_now}
-use Rattle.ctr_undo.specs.kept_Undo.{Undo}
 use Rattle.ctr_undo.specs.kept_Walk.{Mind}
 use Rattle.ctr_undo.specs.stops_World.{KeepsWorld}
 use Rattle.ctr_undo.specs.page_turns_Acts.{ActsBy}
@@ -23,7 +21,6 @@ use Rattle.ctr_undo.specs.page_turns_Turns.{LogsAtRest, RestsBehind, Turns, Read
 use Rattle.ctr_undo.specs.Left.{UndoLeft}
 use Rattle.ctr_undo.specs.Keeping.{list_of}
 use Rattle.ctr_undo.specs.Turns.{MayUndo}
-use Rattle.ctr_pass.specs.txn_Held.{TxnsHeld}
 use Rattle.ctr_pass.specs.exec_sessions_Sessions.{Sessions}
 use Rattle.ctr_pass.specs.txn_Steps.{mark_in}
 use Rattle.ctr_pass.specs.session_world_Ready.{StandOver}
@@ -34,13 +31,13 @@ use Rattle.ctr_pass.proofs.session_world_Resting.{world_rests}
 use Rattle.ctr_pass.specs.cleaner_CleanTurn.{CleanTurn}
 use Rattle.ctr_pass.specs.cleaner_CleanTurn.TheVariants.{Cleaned, Unlinked, Reclaimed, Moved, Over}
 use Rattle.ctr_pass.specs.cleaner_MayEmpty.{MayEmpty}
-use Rattle.ctr_pass.specs.cleaner_Turning.{CleansFreely, Heeded, LeavesCounts, PassesBy, TurnsAt, heeding, next_cleaned}
+use Rattle.ctr_pass.specs.cleaner_Turning.{CleansFreely, Heeded, LeavesCounts, TurnsAt, heeding, next_cleaned}
 use Rattle.ctr_pass.specs.cursor_Position.{Position}
 use Rattle.ctr_pass.specs.cursor_Standing.{IsCountedPosition}
 use Rattle.ctr_pass.specs.declared.going.Went.{Went}
 use Rattle.ctr_pass.specs.declared.pass.Pass.{Pass}
-use Rattle.ctr_pass.specs.Going.{IsFrom, WentAs}
-use Rattle.ctr_pass.specs.Keeping.{HeedsNobody, IsAtRest, KeepsPass, PassedOver, TurnsUnder}
+use Rattle.ctr_pass.specs.Going.{WentAs}
+use Rattle.ctr_pass.specs.Keeping.{HeedsNobody, HasNoneOpen, KeepsPass, PassedOver, TurnsUnder}
 use Rattle.ctr_pass.specs.declared.pass.Phase.TheVariants.{Idle}
 use Rattle.ctr_pass.specs.Passing.{noted, pass_behind}
 use Rattle.ctr_pass.specs.Sparing.{HaveNobody, IsNobodyInside, keeping_room, with_cleaner}
@@ -201,7 +198,7 @@ pub record RestLaws {D : Type 0} (g : Ghosts D) : Type 0 where
 
 module _ {D B : Type 0} (o : Opening B) (first : Image) (g : Ghosts D) (laws : RestLaws g) (s : State) (old : Running D) (shows : Shows o first g s old) (may : MayEmpty) (free : HaveNobody old.sessions.txns → may.free ≡ true) where
   -- at rest the cleaner heeds nobody
-  pub heeds_nobody : IsAtRest (passed_over o s old) → HeedsNobody (heeding (mark_in old.store.now.tables old.sessions.txns) old.sessions.locks (length old.undo.items) may) (passed_over o s old)
+  pub heeds_nobody : HasNoneOpen (passed_over o s old) → HeedsNobody (heeding (mark_in old.store.now.tables old.sessions.txns) old.sessions.locks (length old.undo.items) may) (passed_over o s old)
   heeds_nobody at_rest = record {
     low = laws.mark (start_in o s) shows.opened old.store old.sessions shows.mind shows.shows inside at_rest.opens;
     locks = laws.locks (start_in o s) shows.opened old.store old.sessions shows.mind shows.shows inside;
@@ -219,7 +216,7 @@ ByItsTurn = (p : Pass) (h : Heeded) (w : Went) (v u : PassedOver) → KeepsPass 
 module _ {D B : Type 0} (o : Opening B) (s : State) (old : Running D) (b : View D) (item : Bool) (pass : Pass) (h : Heeded) (w : Went) where
   -- a pass is kept by its turn
   pub pass_cleaned : ByItsTurn → IsDatabaseState old.store.now → (IsIdlePass old → ⊥) → (old.pass.next ≡ old.store.next → w.from ≡ old.pass.at) → WentAs h old.store.now b.now w → b.next ≡ next_cleaned w.did old.store.next
-      → h.spared ≡ length old.undo.items → (IsAtRest (passed_over o s old) → HeedsNobody h (passed_over o s old)) → pass ≡ pass_behind (noted_pass old) w.from w.did h.may.unlink b.next → KeepsPassIn o s old
+      → h.spared ≡ length old.undo.items → (HasNoneOpen (passed_over o s old) → HeedsNobody h (passed_over o s old)) → pass ≡ pass_behind (noted_pass old) w.from w.did h.may.unlink b.next → KeepsPassIn o s old
       → KeepsPassIn o s (record old { store = b; sessions = keeping_room item old.sessions; pass = pass })
   pass_cleaned law database goes from went next spared heeds is keeps = subst (λ (p : Pass). KeepsPass p (passed_over o s (record old { store = b; sessions = keeping_room item old.sessions; pass = pass }))) (sym is)
       (law old.pass h w (passed_over o s old) (passed_over o s (record old { store = b; sessions = keeping_room item old.sessions; pass = pass })) keeps database goes (record {

@@ -1,5 +1,5 @@
 -- The cleaner's pass in a World, beside what others do.
-use Rattle.std.proofs.Common.{◌≡◌, ◌⊎◌, ⊎_elim, inl, inr, ℕ, ◌≤◌, ◌<◌, List, [], ◌++◌, refl, sym, ap, subst, arith}
+use Rattle.std.proofs.Common.{◌≡◌, ⊎_elim, inl, inr, ℕ, ◌≤◌, ◌<◌, List, [], ◌++◌, refl, sym, ap, subst, arith}
 use Rattle.std.specs.Prelude.{length}
 use Rattle.std.proofs.lemmas.List.{append-nil}
 use Rattle.ctr_types.specs.declared.statement.Line.{Line}

@@ -1,5 +1,5 @@
 -- A store that was opened, once room for an item of the cleaner's is taken.
-use Rattle.std.proofs.Common.{◌≡◌, ℕ, ◌+◌, ◌≤◌, true, ◌∙◌, sym, ap, subst, arith}
+use Rattle.std.proofs.Common.{◌≡◌, ℕ, ◌+◌, ◌≤◌, true, ◌∙◌, sym, ap, arith}
 use Rattle.std.specs.Prelude.{if◌then◌else◌}
 use Rattle.std.specs.List.{sum_by}
 use Rattle.ctr_types.specs.declared.statement.Script.{Script}
@@ -9,11 +9,10 @@ use Rattle.ctr_meta.specs.Kept.{TablesKept}
 use Rattle.ctr_meta.specs.Tables.{Tables}
 use Rattle.ctr_store.specs.Store.{LeavesFront, View}
 use Rattle.ctr_store.specs.StoreOpening.{OpensStore}
-use Rattle.ctr_pass.specs.txn_Held.{TxnsHeld}
 use Rattle.ctr_pass.specs.txn_Rooms.{HasItemRoom, item_kept}
 use Rattle.ctr_pass.specs.exec_sessions_Sessions.{Sessions}
 use Rattle.ctr_pass.specs.exec_Sessions.{AreFresh}
-use Rattle.ctr_pass.specs.Sparing.{keeping_room, with_cleaner}
+use Rattle.ctr_pass.specs.Sparing.{with_cleaner}
 use Rattle.ctr_world.specs.declared.beginning.Begun.{Begun}
 use Rattle.ctr_world.specs.Begun.{IsBegun}
 

@@ -10,7 +10,7 @@ use Rattle.ctr_disk.specs.declared.disk.Disk.{Ghosts}
 use Rattle.ctr_disk.specs.declared.fault.StoreFault.{StoreFault}
 use Rattle.ctr_rec.specs.declared.record.SlogItem.TheVariants.{AllocOf, FreeOf, CreateOf, DropOf}
 use Rattle.ctr_model.specs.State.{has_name}
-use Rattle.ctr_store.specs.Store.{turns_for_room}
+use Rattle.ctr_store.specs.Store.{HasTurnRoom, turns_for_room}
 use Rattle.ctr_flush.specs.declared.flusher.FlushTurn.TheVariants.{Wrote}
 use Rattle.ctr_flush.specs.Turns.{AnswersTurn, IsIdle, IsShort}
 use Rattle.ctr_pass.specs.txn_Held.{IsOneOfEight}
@@ -20,7 +20,7 @@ use Rattle.ctr_undo.specs.Left.{left_in, IsOver as NoneIsLeft}
 use Rattle.ctr_pass.specs.exec_sessions_Sessions.{Sessions}
 use Rattle.ctr_pass.specs.exec_Order.{IsReleaseEntry}
 use Rattle.ctr_pass.specs.exec_Runners.{runner_at}
-use Rattle.ctr_pass.specs.exec_Sessions.{AreAnswers, AreOfTurn, IsReleased, turns_left}
+use Rattle.ctr_pass.specs.exec_Sessions.{AreAnswers, AreOfTurn, HasAct, IsReleased, IsRollingBack, RollsTurn, turns_left}
 use Rattle.ctr_world.specs.Held.{Running, Held}
 use Rattle.ctr_world.specs.Cleaning.{CleansOn, IsIdlePass}
 
@@ -151,6 +151,16 @@ FallsShort actor.Undo w = ⊥
 FallsShort actor.Flusher w = IsShort w.store
 FallsShort actor.Cleaner w = ⊥
 
+-- a turn logs one record at most
+abbrev pub LogsOneAtMost : {D : Type 0} → Running D → Running D → Type 0
+LogsOneAtMost old new = new.store.next ≤ old.store.next + 1
+
+-- Where a session has an act of its own, which is a ROLLBACK of a transaction that wrote, and there is
+-- room, its turn takes the latest item of the transaction away, or makes the entry, with the mark.
+abbrev pub RollsBack : {D : Type 0} → ℕ → Running D → Running D → Type 0
+RollsBack s old new = HasAct old.sessions s → HasTurnRoom old.store → IsRollingBack s old.sessions
+    → (entries : List Entry) × RollsTurn s old.sessions old.store new.store entries
+
 -- ---- the end of a turn
 
 -- The tape and the script are as they were, and so is undo's list.
@@ -163,6 +173,7 @@ abbrev pub EndsTurn : {D : Type 0} → Ghosts D → Turn → Actor → Held D �
 EndsTurn g turn.Went a old new = (old.stop ≡ None) × (new.stop ≡ None)
     × AddsEntries (AreBy a) (g.moment_of new.running.store.disk) old.running new.running
     × ComesNearer a old.running new.running × HasTurnLeft a old.running
+    × LogsOneAtMost old.running new.running
 EndsTurn g turn.Idle a old new = (old.stop ≡ None) × (new.stop ≡ None) × NoneDue a old.running
     × TellsNothing old.running new.running
 EndsTurn g turn.Short a old new = (old.stop ≡ None) × (new.stop ≡ None) × FallsShort a old.running

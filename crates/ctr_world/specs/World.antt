@@ -131,7 +131,7 @@ abbrev pub KeepsPassIn : {D B : Type 0} → Opening B → State → Running D �
 KeepsPassIn o s w = KeepsPass w.pass (passed_over o s w)
 
 -- By the tape no session is in a transaction, and nothing is left of undo.
-pub record IsQuiet {D B : Type 0} (o : Opening B) (s : State) (w : Running D) : Type 0 where
+pub record HasNobodyLeft {D B : Type 0} (o : Opening B) (s : State) (w : Running D) : Type 0 where
   pub nobody : IsNobodyInside (led_to o s w.sessions.tape.items).state
   pub over : IsOver w.undo
 

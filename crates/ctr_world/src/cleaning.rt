@@ -9,7 +9,7 @@ ghost use Rattle.ctr_pass.specs.exec_Sessions.{AreAnswers, OrFails};
 ghost use Rattle.ctr_world.specs.Held.{running};
 ghost use Rattle.ctr_world.specs.World.{IsReady, KeepsPassIn, Shows};
 ghost use Rattle.ctr_world.specs.Cleaning.{CleansHere, IsIdlePass, noted_pass};
-ghost use Rattle.ctr_world.specs.Turns.{AddsUnlessFails, CleanerEnds, TellsNothing};
+ghost use Rattle.ctr_world.specs.Turns.{AddsUnlessFails, CleanerEnds, LogsOneAtMost};
 
 use crate::engine::Engine;
 use crate::left::nobody_inside;
@@ -94,6 +94,7 @@ impl<D: Disk, B: Origin + Opening> Engine<D, B> {
             → OrFails (Shows B.Opening B.first D.Disk s (running self.new) × KeepsPassIn B.Opening s (running self.new)) result) }
         ensures adds { AddsUnlessFails AreAnswers (D.moment_of self.new.store.disk) (running self.old) (running self.new) result }
         ensures went { IfOk result (CleanerEnds (running self.old) (running self.new)) }
+        ensures one { OnOk result (LogsOneAtMost (running self.old) (running self.new)) }
         ensures same { self.new ≡ record self.old { store = self.new.store; sessions = self.new.sessions; pass = self.new.pass } }
         ensures disk { LeavesDisk B.first D.Disk self.old.store self.new.store result }
     {

@@ -20,7 +20,7 @@ ghost use Rattle.ctr_undo.specs.kept_Turns.{state_now};
 ghost use Rattle.ctr_undo.specs.stops_World.{KeepsWorld};
 ghost use Rattle.ctr_undo.specs.walk_Damage.{ReadsPages};
 ghost use Rattle.ctr_world.specs.World.{HoldsLeft, IsReady, Shows, rows_asked};
-ghost use Rattle.ctr_world.specs.Turns.{HasStatementLeft, AreAnswered, AreBy, AreReleases, AddsEntries, AddsUnlessFails, ComesNearer, FlusherEnds, LetsNameGo};
+ghost use Rattle.ctr_world.specs.Turns.{HasStatementLeft, AreAnswered, AreBy, AreReleases, AddsEntries, AddsUnlessFails, ComesNearer, FlusherEnds, LetsNameGo, LogsOneAtMost, RollsBack};
 
 use crate::laws::undo_leaves_the_sessions;
 use crate::names::name_gone;
@@ -82,6 +82,8 @@ impl<D: Disk, B: Origin + Opening> Engine<D, B> {
         ensures shows { (s : State) → WhereSound B.first D.Disk (Shows B.Opening B.first D.Disk s (running self.old) → OrFails (Shows B.Opening B.first D.Disk s (running self.new)) result) }
         ensures adds { AddsUnlessFails (AreOfTurn s) (D.moment_of self.new.store.disk) (running self.old) (running self.new) result }
         ensures nearer { OnOk result (turns_left self.new.sessions self.new.store < turns_left self.old.sessions self.old.store) }
+        ensures one { OnOk result (LogsOneAtMost (running self.old) (running self.new)) }
+        ensures rolls { (t : State) → WhereSound B.first D.Disk (Shows B.Opening B.first D.Disk t (running self.old) → OnOk result (RollsBack s (running self.old) (running self.new))) }
         ensures same { self.new ≡ record self.old { store = self.new.store; sessions = self.new.sessions } }
         ensures disk { LeavesDisk B.first D.Disk self.old.store self.new.store result }
     {
@@ -103,6 +105,8 @@ impl<D: Disk, B: Origin + Opening> Engine<D, B> {
         ensures shows { (s : State) → WhereSound B.first D.Disk (Shows B.Opening B.first D.Disk s (running self.old) → OrFails (Shows B.Opening B.first D.Disk s (running self.new)) result) }
         ensures adds { AddsUnlessFails (AreBy (who.Session s)) (D.moment_of self.new.store.disk) (running self.old) (running self.new) result }
         ensures nearer { OnOk result (ComesNearer (who.Session s) (running self.old) (running self.new)) }
+        ensures one { OnOk result (LogsOneAtMost (running self.old) (running self.new)) }
+        ensures rolls { (t : State) → WhereSound B.first D.Disk (Shows B.Opening B.first D.Disk t (running self.old) → OnOk result (RollsBack s (running self.old) (running self.new))) }
         ensures same { self.new ≡ record self.old { store = self.new.store; sessions = self.new.sessions } }
         ensures disk { LeavesDisk B.first D.Disk self.old.store self.new.store result }
     {
@@ -180,6 +184,7 @@ impl<D: Disk, B: Origin + Opening> Engine<D, B> {
         ensures nearer { OnOk result (turns_for_room self.new.store < turns_for_room self.old.store) }
         ensures fewer { OnOk result (turns_left self.new.sessions self.new.store < turns_left self.old.sessions self.old.store) }
         ensures answered { OnOk result (AreAnswered (running self.new)) }
+        ensures none { OnOk result (self.new.store.next ≡ self.old.store.next) }
         ensures same { self.new ≡ record self.old { store = self.new.store; sessions = self.new.sessions } }
         ensures disk { LeavesDisk B.first D.Disk self.old.store self.new.store result }
     {
@@ -230,6 +235,7 @@ impl<D: Disk, B: Origin + Opening> Engine<D, B> {
         ensures nearer { OnOk result (ComesNearer who.Undo (running self.old) (running self.new)) }
         ensures left { (self.new.size ≡ self.old.size) × (left_in self.new.undo ≤ left_in self.old.undo) }
         ensures pass { OnOk result (LeavesPass (running self.old) (running self.new)) }
+        ensures one { OnOk result (LogsOneAtMost (running self.old) (running self.new)) }
         ensures disk { LeavesDisk B.first D.Disk self.old.store self.new.store result }
     {
         if !self.store.room() {
@@ -266,6 +272,7 @@ impl<D: Disk, B: Origin + Opening> Engine<D, B> {
         ensures shows { (s : State) → WhereSound B.first D.Disk (Shows B.Opening B.first D.Disk s (running self.old) → OrFails (Shows B.Opening B.first D.Disk s (running self.new)) result) }
         ensures adds { AddsUnlessFails AreAnswers (D.moment_of self.new.store.disk) (running self.old) (running self.new) result }
         ensures went { IfOk result (FlusherEnds (running self.old) (running self.new)) }
+        ensures one { OnOk result (LogsOneAtMost (running self.old) (running self.new)) }
         ensures same { self.new ≡ record self.old { store = self.new.store; sessions = self.new.sessions } }
         ensures disk { LeavesDisk B.first D.Disk self.old.store self.new.store result }
     {

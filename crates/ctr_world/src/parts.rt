@@ -1,13 +1,15 @@
 // The turns of a World's actors, and how a fault stops it.
-ghost use Rattle.std.specs.Prelude.{◌≡◌, ◌≢◌, ◌≤◌, ◌<◌, ◌-◌, ◌^◌, ℕ, [], true, false, None};
+ghost use Rattle.std.specs.Prelude.{◌≡◌, ◌≢◌, ◌≤◌, ◌<◌, ◌-◌, ◌^◌, ℕ, [], true, false, IsTrue, None};
 ghost use Rattle.ctr_types.specs.declared.tape.Actor.TheVariants as who;
 ghost use Rattle.ctr_types.specs.declared.tape.Turn.TheVariants.{Went, Stopped};
 ghost use Rattle.ctr_pass.specs.exec_Sessions.{turns_left};
 ghost use Rattle.ctr_world.specs.Held.{held};
 ghost use Rattle.ctr_world.specs.World.{Kept, stop_by};
 ghost use Rattle.ctr_base.specs.Base.{WhereSound};
+ghost use Rattle.ctr_redo.specs.States.{State};
+ghost use Rattle.ctr_record_effects.specs.Standing.{StandsForDatabase};
 ghost use Rattle.ctr_world.specs.Counted.{TotalsAre};
-ghost use Rattle.ctr_world.specs.Turns.{EndsTurn, FinishesBy, HasStatementLeft, IsOver, TakesFirst};
+ghost use Rattle.ctr_world.specs.Turns.{EndsTurn, FinishesBy, HasStatementLeft, IsOver, RollsBack, TakesFirst};
 
 use crate::engine::Engine;
 use crate::left::{first_left, has_left};
@@ -83,6 +85,7 @@ impl<D: Disk, B: Origin + Opening> Parts<D, B> {
         requires kept { Kept B.Opening B.first D.Disk (held self.old) }
         ensures kept { Kept B.Opening B.first D.Disk (held self.new) }
         ensures says { EndsTurn D.Disk result (who.Session s) (held self.old) (held self.new) }
+        ensures rolls { (t : State) → IsTrue D.tells → StandsForDatabase B.first t → result ≡ Went → RollsBack s (held self.old).running (held self.new).running }
     {
         if !has_left(&self.engine.sessions, s) {
             return Turn::Over;
@@ -171,6 +174,7 @@ impl<D: Disk, B: Origin + Opening> Parts<D, B> {
         requires kept { Kept B.Opening B.first D.Disk (held self.old) }
         ensures kept { Kept B.Opening B.first D.Disk (held self.new) }
         ensures says { EndsTurn D.Disk result actor (held self.old) (held self.new) }
+        ensures rolls { (t : State) (s : ℕ) → IsTrue D.tells → StandsForDatabase B.first t → actor ≡ who.Session s → result ≡ Went → RollsBack s (held self.old).running (held self.new).running }
     {
         if self.stop.is_some() {
             return Turn::Stopped;

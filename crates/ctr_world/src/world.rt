@@ -13,10 +13,10 @@ ghost use Rattle.ctr_pass.specs.exec_Runners.{AreRunners, runner_at};
 ghost use Rattle.ctr_world.specs.Opened.{IsOpenedOn, CanRun};
 ghost use Rattle.ctr_area.specs.Sound.{IsBare};
 ghost use Rattle.ctr_record_effects.specs.States.{area_in};
-ghost use Rattle.ctr_types.specs.declared.tape.Actor.TheVariants.{Cleaner};
-ghost use Rattle.ctr_types.specs.declared.tape.Turn.TheVariants.{Idle};
-ghost use Rattle.ctr_world.specs.World.{IsQuiet, IsTapeOf, StopsBy};
-ghost use Rattle.ctr_world.specs.Turns.{HasStatementLeft, EndsTurn, FinishesBy};
+ghost use Rattle.ctr_types.specs.declared.tape.Actor.TheVariants.{Cleaner, Session};
+ghost use Rattle.ctr_types.specs.declared.tape.Turn.TheVariants.{Idle, Went};
+ghost use Rattle.ctr_world.specs.World.{HasNobodyLeft, IsTapeOf, StopsBy};
+ghost use Rattle.ctr_world.specs.Turns.{HasStatementLeft, EndsTurn, FinishesBy, RollsBack};
 ghost use Rattle.ctr_world.specs.Counted.{CountsLoaded};
 ghost use Rattle.ctr_world.specs.Ended.{Ends, EndsInOrder, IsUnbegunWorld, PassesOpening, RefusesWith, RefusesWorld};
 
@@ -172,8 +172,10 @@ impl<D: Disk, B: Origin + Opening> World<D, B> {
     /// A turn of an actor. After a stop it does nothing.
     pub fn step(&mut self, alloc: Global, actor: Actor) -> Turn
         ensures says { EndsTurn D.Disk result actor self.old self.new }
+        // A session that rolls back goes by its items: rows are left as they are, however many it wrote.
+        ensures rolls { (t : State) (s : ℕ) → IsTrue D.tells → StandsForDatabase B.first t → actor ≡ Session s → result ≡ Went → RollsBack s self.old.running self.new.running }
         // The cleaner is idle, while no session is in a transaction and undo is over, only where nothing is left to clean.
-        ensures bare { (s : State) → IsTrue D.tells → StandsForDatabase B.first s → actor ≡ Cleaner → result ≡ Idle → IsQuiet B.Opening s self.old.running
+        ensures bare { (s : State) → IsTrue D.tells → StandsForDatabase B.first s → actor ≡ Cleaner → result ≡ Idle → HasNobodyLeft B.Opening s self.old.running
             → IsBare self.old.running.store.now.tables (area_in self.old.running.store.now) }
     {
         an_idle_pass_leaves_it_bare();

@@ -31,3 +31,8 @@ returns-in-Ok-clause-disk g c = disk_done g.B.Origin.first g.D.Disk c.args.self.
 
 pub returns-clause-disk : goal.returns-clause-disk
 returns-clause-disk g c = disk_failed g.B.Origin.first g.D.Disk c.args.self.now.store c.turn.new.store c.in-Err.fault c.in-Err.ensures.disk
+
+pub returns-in-Ok-clause-rolls : goal.returns-in-Ok-clause-rolls
+returns-in-Ok-clause-rolls g c = λ t tells sound shows acts room back.
+    let told = c.in-Ok.ensures.told (start_in g.B.Opening t) shows.opened shows.mind tells sound shows.shows in
+    (told.0.entries, told.1.rolls acts room back)

@@ -1,4 +1,6 @@
-use Rattle.ctr_pass.specs.exec_Sessions.{AreAnswers, AreOfTurn, turns_left}
+use Rattle.std.proofs.Common.{sym, subst}
+use Rattle.ctr_store.specs.Store.{View}
+use Rattle.ctr_pass.specs.exec_Sessions.{AreAnswers, AreOfTurn, RollsTurn, turns_left}
 use Rattle.ctr_world.specs.Held.{running}
 use Rattle.ctr_world.proofs.Adding.{adds_behind}
 use Rattle.ctr_world.proofs.Nearer.{below}
@@ -20,3 +22,9 @@ returns-in-Ok-clause-nearer g c = (below (turns_left c.answer.new.self.sessions 
 
 pub returns-in-Ok-clause-disk : goal.returns-in-Ok-clause-disk
 returns-in-Ok-clause-disk g c = disk_answered g.B.Origin.first g.D.Disk c.args.self.now.store c.act.new.self.store c.answer.new.self.store _ (λ i. (c.answer.ensures.same i).store) c.in-Ok.ensures.disk
+
+pub returns-in-Ok-clause-rolls : goal.returns-in-Ok-clause-rolls
+returns-in-Ok-clause-rolls g c = λ t tells sound shows acts room back.
+    let old = running c.args.self.now in
+    let rolls = c.in-Ok.ensures.rolls t tells sound shows acts room back in
+    (rolls.0, subst (λ (v : View g.row.D.Denot). RollsTurn c.args.s old.sessions old.store v rolls.0) (sym (λ i. (c.answer.ensures.same i).store)) rolls.1)

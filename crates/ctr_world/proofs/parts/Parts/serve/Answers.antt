@@ -2,7 +2,7 @@ use Rattle.std.proofs.Common.{inl, ◌≤◌, sym, subst}
 use Rattle.ctr_undo.specs.Left.{left_in}
 use Rattle.ctr_world.specs.declared.engine.Engine.{Engine}
 use Rattle.ctr_world.specs.Held.{held, running}
-use Rattle.ctr_world.proofs.Keeping.{kept_on, none_more, stopped_as}
+use Rattle.ctr_world.proofs.Keeping.{kept_on, none_more, sound_of, stopped_as}
 use Rattle.ctr_world.proofs.Passes.{pass_beside}
 use Rattle.ctr_world.proofs.parts.Parts.serve.Goals as goal
 
@@ -19,3 +19,8 @@ returns-in-Err-clause-kept g c =
     let e = c.in-Err.ensures in
     stopped_as g.B.Opening g.B.Origin.first g.D.Disk (held c.args.self.now) (running c.serve.new.self) c.requires.kept c.requires.going e.adds.1 (λ i. (e.same i).size) e.disk.later c.in-Err.fault (λ s tells sound shows pass. e.shows s tells sound shows) e.adds.0
     (subst (λ (x : Engine g.row.D.Denot g.row.B.Denot). left_in x.undo ≤ x.size) (sym e.same) c.requires.kept.count) c.a_turn_that_ends_leaves_a_prefix.ensures e.disk c.stop_by.result c.stop_by.ensures
+
+pub returns-in-Ok-clause-rolls : goal.returns-in-Ok-clause-rolls
+returns-in-Ok-clause-rolls g c = λ t tells stands went acts room back.
+    let kept = c.requires.kept in
+    c.in-Ok.ensures.rolls t tells (sound_of g.B.Origin.first t stands) (kept.shows t tells stands c.requires.going) acts room back
