@@ -3,7 +3,6 @@ pub mod Beside
 pub mod Noted
 pub mod Stayed
 pub mod Turned
-pub mod LeftOut
 pub mod Freely
 pub mod Outside
 pub mod Rooms

@@ -1,5 +1,5 @@
 -- What the cleaner knows of what happened since it looked last.
-use Rattle.std.specs.Prelude.{◌≡◌, ℕ, ℤ, ◌+◌, ◌==◌, ◌&&◌, nat_lt, not, Bool, true, false, List, drop, length, Option, Some, None, if◌then◌else◌}
+use Rattle.std.specs.Prelude.{◌≡◌, ℕ, ℤ, ◌==◌, ◌&&◌, not, Bool, true, false, List, drop, length, Option, Some, None, if◌then◌else◌}
 use Rattle.std.specs.List.{list_any}
 use Rattle.ctr_types.specs.declared.tape.Entry.{Entry}
 use Rattle.ctr_types.specs.declared.tape.Reply.{Reply}
@@ -9,7 +9,6 @@ use Rattle.ctr_model.specs.Refusals.{has_lock}
 use Rattle.ctr_cleaner.specs.declared.done.CleanTurn.{CleanTurn}
 use Rattle.ctr_cleaner.specs.declared.done.CleanTurn.TheVariants as did
 use Rattle.ctr_cleaner.specs.cursor_Position.{Position}
-use Rattle.ctr_cleaner.specs.cursor_Position.TheVariants.{Entry as AtEntry, Slot, Kept, Aborted}
 use Rattle.ctr_cleaner.specs.cursor_Pass.{start}
 use Rattle.ctr_pass.specs.declared.pass.Pass.{Pass}
 use Rattle.ctr_pass.specs.declared.pass.Phase.{Phase}
@@ -48,30 +47,6 @@ noted p next es = record p {
   seen = length es;
   phase = if is_calm p next es then p.phase else Disturbed;
 }
-
--- ---- where the low mark is old
-
--- the position behind all pages of an entry: the next entry, or the first aborted transaction
-abbrev pub behind_entry : ℕ → Position
-behind_entry e = if nat_lt e 31 then AtEntry (e + 1) else Aborted 0
-
--- a pass that goes on behind an entry, of which nothing is known then; one that is idle stays
-abbrev pub past_entry : Phase → ℕ → Pass → Pass
-past_entry Disturbed e p = record p { at = behind_entry e; phase = Disturbed }
-past_entry Calm e p = record p { at = behind_entry e; phase = Disturbed }
-past_entry Idle e p = p
-
--- a pass that leaves version entries out
-abbrev pub past_kept : Position → Pass → Pass
-past_kept (AtEntry e) p = p
-past_kept (Slot e b at) p = p
-past_kept (Kept e at) p = past_entry p.phase e p
-past_kept (Aborted n) p = p
-
--- A pass comes by version entries where the low mark is recent. Else it leaves them out: whether one
--- is in its row's chain is asked along that, which may be as long as the oldest snapshot is old.
-abbrev pub leaving_out : Bool → Pass → Pass
-leaving_out recent p = if recent then p else past_kept p.at p
 
 -- ---- behind a turn
 

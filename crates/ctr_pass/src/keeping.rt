@@ -1,5 +1,5 @@
 // What is kept of a pass of the cleaner. A call does nothing: what it ensures is the law.
-ghost use Rattle.std.specs.Prelude.{◌≡◌, ℕ, Bool, List, ◌++◌};
+ghost use Rattle.std.specs.Prelude.{◌≡◌, ℕ, List, ◌++◌};
 ghost use Rattle.ctr_types.specs.declared.statement.Line.{Line};
 ghost use Rattle.ctr_types.specs.declared.tape.Entry.{Entry};
 ghost use Rattle.ctr_model.specs.declared.tape.Point.{Point};
@@ -9,12 +9,11 @@ ghost use Rattle.ctr_walk.specs.record_effects_States.{area_in};
 ghost use Rattle.ctr_walk.specs.record_effects_Standing.{IsDatabaseState};
 ghost use Rattle.ctr_cleaner.specs.Turning.{Heeded};
 ghost use Rattle.ctr_cleaner.specs.cursor_Pass.{start};
-ghost use Rattle.ctr_cleaner.specs.cursor_Standing.{IsCountedPosition};
 ghost use Rattle.ctr_pass.specs.declared.going.Went.{Went};
 ghost use Rattle.ctr_pass.specs.declared.pass.Pass.{Pass as PassAt};
 ghost use Rattle.ctr_pass.specs.declared.pass.Phase.TheVariants.{Calm, Idle};
 ghost use Rattle.ctr_pass.specs.Keeping.{PassedOver, HasNoneOpen, KeepsPass, StaysOrLogs, TurnsUnder};
-ghost use Rattle.ctr_pass.specs.Passing.{leaving_out, noted, pass_behind};
+ghost use Rattle.ctr_pass.specs.Passing.{noted, pass_behind};
 
 use ctr_cleaner::{
     a_pass_goes_from_position_to_position, a_pass_goes_on,
@@ -34,14 +33,6 @@ pub fn a_pass_is_kept_beside_others()
     what_is_found_stays();
     a_position_stays();
 }
-
-/// A pass that leaves version entries out is kept, and what it is at is there; and one that is idle is left as it is.
-pub fn a_pass_may_leave_out_version_entries()
-    ensures kept { (recent : Bool) (p : PassAt) (v : PassedOver) → KeepsPass p v → KeepsPass (leaving_out recent p) v }
-    ensures within { (recent : Bool) (p : PassAt) (counted : ℕ) → IsCountedPosition counted p.at → IsCountedPosition counted (leaving_out recent p).at }
-    ensures idle { (recent : Bool) (p : PassAt) (next : ℕ) (es : List Entry) → (noted (leaving_out recent p) next es).phase ≡ Idle → leaving_out recent p ≡ p }
-    ensures stays { (recent : Bool) (p : PassAt) (next : ℕ) (es : List Entry) → (noted p next es).phase ≡ Idle → leaving_out recent p ≡ p }
-{}
 
 /// A pass that is idle once the cleaner has looked is kept without a turn.
 pub fn an_idle_pass_is_kept()

@@ -21,8 +21,8 @@ pub use ctr_exec::writing::what_a_write_counts_on_stays;
 pub use ctr_exec::{Sessions, a_script_begins_in_a_world};
 pub use going::{Went, clean_from};
 pub use keeping::{
-    a_pass_begins, a_pass_is_kept_beside_others, a_pass_is_kept_by_its_turn,
-    a_pass_may_leave_out_version_entries, an_idle_pass_is_kept, an_idle_pass_leaves_it_bare,
+    a_pass_begins, a_pass_is_kept_beside_others, a_pass_is_kept_by_its_turn, an_idle_pass_is_kept,
+    an_idle_pass_leaves_it_bare,
 };
 pub use laws::{a_calm_tape_leaves_who_is_inside, the_cleaner_leaves_the_sessions};
 pub use pass::{Pass, Phase, keeps_room};

@@ -1,6 +1,6 @@
 // Where a pass of the cleaner is.
 ghost use Rattle.std.specs.Prelude.{◌≡◌, true, false, None, Some, drop};
-ghost use Rattle.ctr_pass.specs.Passing.{is_end as ends_one, keeps_room as room_kept, leaving_out as left_out, past_entry, noted as noted_by, pass_behind, pass_on, some_end};
+ghost use Rattle.ctr_pass.specs.Passing.{is_end as ends_one, keeps_room as room_kept, noted as noted_by, pass_behind, pass_on, some_end};
 ghost use Rattle.ctr_pass.specs.declared.pass.Phase.TheVariants.{Calm, Idle};
 ghost use Rattle.ctr_cleaner.specs.cursor_Pass.{start};
 
@@ -90,40 +90,6 @@ impl Pass {
             next,
             seen: tape.len(),
             phase,
-        }
-    }
-
-    // The pass behind an entry, of which nothing is known then. One that is idle stays.
-    fn past(self, entry: u8) -> Pass
-        ensures { result ≡ past_entry self.phase entry self }
-    {
-        let at = if entry < 31 {
-            Position::Entry { entry: entry + 1 }
-        } else {
-            Position::Aborted { nth: 0 }
-        };
-        match self.phase {
-            Phase::Disturbed | Phase::Calm => Pass {
-                at,
-                next: self.next,
-                seen: self.seen,
-                phase: Phase::Disturbed,
-            },
-            Phase::Idle => self,
-        }
-    }
-
-    /// The pass for a turn now. Where the low mark isn't recent it leaves version entries out: whether one is in its row's chain is asked along that,
-    /// which may be as long as the oldest snapshot is old.
-    pub fn leaving_out(self, recent: bool) -> Pass
-        ensures { result ≡ left_out recent self }
-    {
-        if recent {
-            return self;
-        }
-        match self.at {
-            Position::Kept { entry, .. } => self.past(entry),
-            Position::Entry { .. } | Position::Slot { .. } | Position::Aborted { .. } => self,
         }
     }
 

@@ -1,11 +1,8 @@
 -- A turn of the cleaner in a World.
-use Rattle.std.proofs.Common.{◌≡◌, ◌⊎◌, ⊎_elim, inl, inr, ℕ, ◌+◌, ◌<◌, ◌≤◌, Bool, true, false, List, [], None, Result, Ok, Err, refl, sym, ◌∙◌, ap, subst, arith}
-use Rattle.std.specs.Prelude.{IfOk, IsTrue, length}
-use Rattle.ctr_types.specs.declared.tape.Turn.{Turn}
-use Rattle.ctr_types.specs.declared.tape.Turn.TheVariants as turn
+use Rattle.std.proofs.Common.{◌≡◌, ◌⊎◌, ⊎_elim, inl, inr, ℕ, ◌+◌, ◌<◌, ◌≤◌, Bool, true, false, List, [], None, Ok, refl, sym, ◌∙◌, ap, subst, arith}
+use Rattle.std.specs.Prelude.{IsTrue, length}
 use Rattle.ctr_types.specs.declared.tape.Entry.{Entry}
 use Rattle.ctr_disk.specs.declared.disk.Disk.{Ghosts}
-use Rattle.ctr_disk.specs.declared.fault.StoreFault.{StoreFault}
 use Rattle.ctr_disk.specs.Image.{Image}
 use Rattle.ctr_base.specs.Base.{IsSoundImage}
 use Rattle.ctr_model.specs.State.{transaction_of}
@@ -42,12 +39,11 @@ use Rattle.ctr_pass.specs.declared.pass.Pass.{Pass}
 use Rattle.ctr_pass.specs.Going.{WentAs}
 use Rattle.ctr_pass.specs.Keeping.{HeedsNobody, HasNoneOpen, KeepsPass, PassedOver, TurnsUnder}
 use Rattle.ctr_pass.specs.declared.pass.Phase.TheVariants.{Idle}
-use Rattle.ctr_pass.specs.Passing.{leaving_out, noted, pass_behind}
+use Rattle.ctr_pass.specs.Passing.{noted, pass_behind}
 use Rattle.ctr_pass.specs.Sparing.{HaveNobody, IsNobodyInside, keeping_room, with_cleaner}
 use Rattle.ctr_world.specs.declared.opening.Opening.{Ghosts as Opening}
-use Rattle.ctr_world.specs.Cleaning.{CleansOn, IsIdlePass, is_recent, noted_pass}
+use Rattle.ctr_world.specs.Cleaning.{IsIdlePass, noted_pass}
 use Rattle.ctr_world.specs.Held.{Running}
-use Rattle.ctr_world.specs.Turns.{CleanerEnds, CleanerGoes}
 use Rattle.ctr_world.specs.World.{FullCountsAll, IsReady, KeepsPassIn, Shows, led_to, passed_over, start_in}
 
 -- ---- what it did to the store
@@ -236,15 +232,15 @@ module _ {D B : Type 0} (o : Opening B) (s : State) (old : Running D) (b : View 
 
 -- ---- an idle pass
 
-abbrev pub looked : {D : Type 0} → Running D → Pass → Running D
-looked old pass = record old { pass = pass }
-
 module _ {D B : Type 0} (o : Opening B) (first : Image) (g : Ghosts D) (old : Running D) (pass : Pass) where
+  abbrev pub looked : Running D
+  looked = record old { pass = pass }
+
   -- the cleaner has looked, and did nothing
-  pub shows_looked : (s : State) → Shows o first g s old → Shows o first g s (looked old pass)
+  pub shows_looked : (s : State) → Shows o first g s old → Shows o first g s looked
   shows_looked s shows = record { opened = shows.opened; on = shows.on; mind = shows.mind; shows = shows.shows; undo = shows.undo; names = shows.names; numbered = shows.numbered; full = shows.full }
 
-  pub ready_looked : pass.at ≡ old.pass.at → IsReady o g old → IsReady o g (looked old pass)
+  pub ready_looked : pass.at ≡ old.pass.at → IsReady o g old → IsReady o g looked
   ready_looked at ready = record {
     stand = ready.stand;
     going = ready.going;
@@ -257,40 +253,5 @@ module _ {D B : Type 0} (o : Opening B) (first : Image) (g : Ghosts D) (old : Ru
   }
 
   -- its pass is kept, where it is idle
-  pub pass_looked : (s : State) → ((p : Pass) (v : PassedOver) → KeepsPass p v → (noted p v.next v.tape).phase ≡ Idle → KeepsPass (noted p v.next v.tape) v) → pass ≡ noted_pass old → IsIdlePass old → KeepsPassIn o s old → KeepsPassIn o s (looked old pass)
-  pass_looked s law is idle keeps = subst (λ (p : Pass). KeepsPass p (passed_over o s (looked old pass))) (sym is) (law old.pass (passed_over o s (looked old pass)) keeps idle)
-
--- ---- a pass that leaves version entries out
-
--- the laws of a pass that does
-pub record AsideLaws : Type 0 where
-  pub kept : (recent : Bool) (p : Pass) (v : PassedOver) → KeepsPass p v → KeepsPass (leaving_out recent p) v
-  pub idle : (recent : Bool) (p : Pass) (next : ℕ) (es : List Entry) → (noted (leaving_out recent p) next es).phase ≡ Idle → leaving_out recent p ≡ p
-  pub stays : (recent : Bool) (p : Pass) (next : ℕ) (es : List Entry) → (noted p next es).phase ≡ Idle → leaving_out recent p ≡ p
-
-module _ {D : Type 0} (laws : AsideLaws) (old : Running D) (recent : Bool) (pass : Pass) (is : pass ≡ leaving_out recent old.pass) where
-  pub pass_aside : {B : Type 0} (o : Opening B) (s : State) → KeepsPassIn o s old → KeepsPassIn o s (looked old pass)
-  pass_aside o s keeps = subst (λ (p : Pass). KeepsPass p (passed_over o s old)) (sym is) (laws.kept recent old.pass (passed_over o s old) keeps)
-
-  idle_before : IsIdlePass (looked old pass) → IsIdlePass old
-  idle_before idle = subst (λ (p : Pass). (noted p old.store.next old.sessions.tape.items).phase ≡ Idle)
-      (is ∙ laws.idle recent old.pass old.store.next old.sessions.tape.items (subst (λ (p : Pass). (noted p old.store.next old.sessions.tape.items).phase ≡ Idle) is idle)) idle
-
-  idle_then : IsIdlePass old → IsIdlePass (looked old pass)
-  idle_then idle = subst (λ (p : Pass). (noted p old.store.next old.sessions.tape.items).phase ≡ Idle) (sym (is ∙ laws.stays recent old.pass old.store.next old.sessions.tape.items idle)) idle
-
-  module _ (new : Running D) (recent_is : recent ≡ is_recent old.store.meta.tables.next (mark_in old.store.meta.tables old.sessions.txns)) where
-    ends : (t : Turn) → CleanerGoes (looked old pass) new t → CleanerEnds old new t
-    ends turn.Went went = (
-      subst (λ (p : Pass). CleansOn (record old { pass = p }) new) (is ∙ ap (λ (b : Bool). leaving_out b old.pass) recent_is) went.0,
-      went.1,
-      λ idle. went.2 (idle_then idle),
-    )
-    ends turn.Idle went = (idle_before went.0, record { sessions = went.1.sessions; undo = went.1.undo })
-    ends turn.Short went = went
-    ends turn.Over went = went
-    ends turn.Stopped went = went
-
-    pub ends_aside : (r : Result Turn StoreFault) → IfOk r (CleanerGoes (looked old pass) new) → IfOk r (CleanerEnds old new)
-    ends_aside (Ok t) = ends t
-    ends_aside (Err _) = λ went. went
+  pub pass_looked : (s : State) → ((p : Pass) (v : PassedOver) → KeepsPass p v → (noted p v.next v.tape).phase ≡ Idle → KeepsPass (noted p v.next v.tape) v) → pass ≡ noted_pass old → IsIdlePass old → KeepsPassIn o s old → KeepsPassIn o s looked
+  pass_looked s law is idle keeps = subst (λ (p : Pass). KeepsPass p (passed_over o s looked)) (sym is) (law old.pass (passed_over o s looked) keeps idle)

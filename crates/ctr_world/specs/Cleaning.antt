@@ -1,12 +1,11 @@
 -- What a turn of the cleaner does in a World.
-use Rattle.std.specs.Prelude.{◌≡◌, ◌⊎◌, ◌+◌, ◌<◌, ℕ, Bool, nat_lt}
+use Rattle.std.specs.Prelude.{◌≡◌, ◌⊎◌, ◌+◌, ◌<◌}
 use Rattle.ctr_store.specs.Store.{HasTurnRoom, turns_for_room}
 use Rattle.ctr_pass.specs.cleaner_Turning.{next_cleaned}
 use Rattle.ctr_pass.specs.declared.going.Went.{Went}
 use Rattle.ctr_pass.specs.declared.pass.Pass.{Pass}
 use Rattle.ctr_pass.specs.declared.pass.Phase.TheVariants.{Idle}
-use Rattle.ctr_pass.specs.Passing.{leaving_out, noted, pass_behind}
-use Rattle.ctr_pass.specs.txn_Steps.{mark_in}
+use Rattle.ctr_pass.specs.Passing.{noted, pass_behind}
 use Rattle.ctr_world.specs.Held.{Running}
 
 -- the pass once the cleaner has looked at what happened since its last turn
@@ -31,16 +30,6 @@ abbrev pub CleansOn : {D : Type 0} → Running D → Running D → Type 0
 CleansOn old new = ((HasTurnRoom old.store → ⊥)
     × (turns_for_room new.store < turns_for_room old.store) × (new.pass ≡ old.pass))
     ⊎ CleansHere old new
-
--- Fewer than 256 transactions have taken a number since the low mark.
-abbrev pub is_recent : ℕ → ℕ → Bool
-is_recent next low = nat_lt next (low + 256)
-
--- the World whose pass leaves version entries out, but where the low mark is recent
-abbrev pub left_out : {D : Type 0} → Running D → Running D
-left_out w = record w {
-  pass = leaving_out (is_recent w.store.meta.tables.next (mark_in w.store.meta.tables w.sessions.txns)) w.pass;
-}
 
 -- What others leave of the cleaner's pass: it is as it was; and so is undo's list, where no record was
 -- logged.

@@ -22,7 +22,7 @@ use Rattle.ctr_pass.specs.exec_Order.{IsReleaseEntry}
 use Rattle.ctr_pass.specs.exec_Runners.{runner_at}
 use Rattle.ctr_pass.specs.exec_Sessions.{AreAnswers, AreOfTurn, HasAct, IsReleased, IsRollingBack, RollsTurn, turns_left}
 use Rattle.ctr_world.specs.Held.{Running, Held}
-use Rattle.ctr_world.specs.Cleaning.{CleansOn, IsIdlePass, left_out}
+use Rattle.ctr_world.specs.Cleaning.{CleansOn, IsIdlePass}
 
 -- a session has a statement that isn't finished
 pub record HasStatementLeft (s : ℕ) (h : Sessions) : Type 0 where
@@ -113,7 +113,7 @@ ComesNearer (actor.Session s) old new =
 ComesNearer actor.Undo old new = (undo_left new < undo_left old)
     × (turns_left new.sessions new.store < turns_left old.sessions old.store) × AreAnswered new
 ComesNearer actor.Flusher old new = WritesBehind old new
-ComesNearer actor.Cleaner old new = CleansOn (left_out old) new × AreAnswered new
+ComesNearer actor.Cleaner old new = CleansOn old new × AreAnswered new
 
 -- nothing is left to do for a session, whose statements are finished, or for undo
 abbrev pub NoneLeft : {D : Type 0} → Actor → Running D → Type 0
@@ -220,17 +220,9 @@ FlusherEnds old new turn.Short = FallsShort actor.Flusher old × TellsNothing ol
 FlusherEnds old new turn.Over = ⊥
 FlusherEnds old new turn.Stopped = ⊥
 
--- How a turn of the cleaner at its pass's position ends: it is idle where the pass is.
-abbrev pub CleanerGoes : {D : Type 0} → Running D → Running D → Turn → Type 0
-CleanerGoes old new turn.Went = CleansOn old new × AreAnswered new × (IsIdlePass old → ⊥)
-CleanerGoes old new turn.Idle = IsIdlePass old × TellsNothing old new
-CleanerGoes old new turn.Short = ⊥
-CleanerGoes old new turn.Over = ⊥
-CleanerGoes old new turn.Stopped = ⊥
-
--- How a turn of the cleaner ends, whose pass leaves version entries out where the low mark is old.
+-- How a turn of the cleaner ends: it is idle where its pass is.
 abbrev pub CleanerEnds : {D : Type 0} → Running D → Running D → Turn → Type 0
-CleanerEnds old new turn.Went = CleansOn (left_out old) new × AreAnswered new × (IsIdlePass old → ⊥)
+CleanerEnds old new turn.Went = CleansOn old new × AreAnswered new × (IsIdlePass old → ⊥)
 CleanerEnds old new turn.Idle = IsIdlePass old × TellsNothing old new
 CleanerEnds old new turn.Short = ⊥
 CleanerEnds old new turn.Over = ⊥

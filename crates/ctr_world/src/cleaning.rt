@@ -8,8 +8,8 @@ ghost use Rattle.ctr_pass.specs.session_world_Ready.{LeavesDisk};
 ghost use Rattle.ctr_pass.specs.exec_Sessions.{AreAnswers, OrFails};
 ghost use Rattle.ctr_world.specs.Held.{running};
 ghost use Rattle.ctr_world.specs.World.{IsReady, KeepsPassIn, Shows};
-ghost use Rattle.ctr_world.specs.Cleaning.{CleansHere, IsIdlePass, is_recent as recent_by, noted_pass};
-ghost use Rattle.ctr_world.specs.Turns.{AddsUnlessFails, CleanerEnds, CleanerGoes, LogsOneAtMost};
+ghost use Rattle.ctr_world.specs.Cleaning.{CleansHere, IsIdlePass, noted_pass};
+ghost use Rattle.ctr_world.specs.Turns.{AddsUnlessFails, CleanerEnds, LogsOneAtMost};
 
 use crate::engine::Engine;
 use crate::left::nobody_inside;
@@ -18,11 +18,11 @@ use ctr_base::Origin;
 use ctr_disk::{Disk, StoreFault};
 use ctr_pass::{
     MayEmpty, Pass, Sessions, a_pass_is_kept_beside_others, a_pass_is_kept_by_its_turn,
-    a_pass_may_leave_out_version_entries, an_idle_pass_is_kept, clean_from, keeps_room,
-    nobody_inside_locks_nothing, pages_that_are_read_keep_a_world,
-    room_for_the_cleaner_leaves_the_sessions, what_was_cleaned_leaves_the_sessions,
+    an_idle_pass_is_kept, clean_from, keeps_room, nobody_inside_locks_nothing,
+    pages_that_are_read_keep_a_world, room_for_the_cleaner_leaves_the_sessions,
+    what_was_cleaned_leaves_the_sessions,
 };
-use ctr_types::{Turn, Xid};
+use ctr_types::Turn;
 use ctr_undo::{a_turn_of_undo_is_kept, names_of_what_is_left_stay};
 
 /// What the cleaner may do in a table that is dead: a page may leave its chain while room is kept for an item of the cleaner's, and an entry is freed where
@@ -36,13 +36,6 @@ fn may_empty(sessions: &Sessions) -> MayEmpty
         unlink: sessions.txns.keeps_cleaners(),
         free: nobody_inside(&sessions.txns, 1),
     }
-}
-
-/// Whether fewer than 256 transactions have taken a number since the low mark.
-fn is_recent(next: Xid, low: Xid) -> bool
-    ensures { result ≡ recent_by next low }
-{
-    low >= next || next - low < 256
 }
 
 impl<D: Disk, B: Origin + Opening> Engine<D, B> {
@@ -91,16 +84,16 @@ impl<D: Disk, B: Origin + Opening> Engine<D, B> {
         }
     }
 
-    // A turn of the cleaner at its pass's position: it is idle where the pass is; else a turn for room, where the store has none, or one in its pass. All
-    // commits that are durable then are answered.
-    fn clean_on(&mut self) -> Result<Turn, StoreFault>
+    /// A turn of the cleaner: it is idle where its pass is; else a turn for room, where the store has none, or one in its pass. All commits that are
+    /// durable then are answered.
+    pub(crate) fn clean(&mut self) -> Result<Turn, StoreFault>
         requires ready { IsReady B.Opening D.Disk (running self.old) }
         requires number { self.old.store.next < 2 ^ 63 - 1 }
         ensures ready { OnOk result (IsReady B.Opening D.Disk (running self.new)) }
         ensures kept { (s : State) → WhereSound B.first D.Disk (Shows B.Opening B.first D.Disk s (running self.old) → KeepsPassIn B.Opening s (running self.old)
             → OrFails (Shows B.Opening B.first D.Disk s (running self.new) × KeepsPassIn B.Opening s (running self.new)) result) }
         ensures adds { AddsUnlessFails AreAnswers (D.moment_of self.new.store.disk) (running self.old) (running self.new) result }
-        ensures went { IfOk result (CleanerGoes (running self.old) (running self.new)) }
+        ensures went { IfOk result (CleanerEnds (running self.old) (running self.new)) }
         ensures one { OnOk result (LogsOneAtMost (running self.old) (running self.new)) }
         ensures same { self.new ≡ record self.old { store = self.new.store; sessions = self.new.sessions; pass = self.new.pass } }
         ensures disk { LeavesDisk B.first D.Disk self.old.store self.new.store result }
@@ -126,26 +119,5 @@ impl<D: Disk, B: Origin + Opening> Engine<D, B> {
             }
             Err(fault) => Err(fault),
         }
-    }
-
-    /// A turn of the cleaner, whose pass leaves version entries out where the low mark is old: it is idle where its pass is; else a turn for room, where the
-    /// store has none, or one in its pass. All commits that are durable then are answered.
-    pub(crate) fn clean(&mut self) -> Result<Turn, StoreFault>
-        requires ready { IsReady B.Opening D.Disk (running self.old) }
-        requires number { self.old.store.next < 2 ^ 63 - 1 }
-        ensures ready { OnOk result (IsReady B.Opening D.Disk (running self.new)) }
-        ensures kept { (s : State) → WhereSound B.first D.Disk (Shows B.Opening B.first D.Disk s (running self.old) → KeepsPassIn B.Opening s (running self.old)
-            → OrFails (Shows B.Opening B.first D.Disk s (running self.new) × KeepsPassIn B.Opening s (running self.new)) result) }
-        ensures adds { AddsUnlessFails AreAnswers (D.moment_of self.new.store.disk) (running self.old) (running self.new) result }
-        ensures went { IfOk result (CleanerEnds (running self.old) (running self.new)) }
-        ensures one { OnOk result (LogsOneAtMost (running self.old) (running self.new)) }
-        ensures same { self.new ≡ record self.old { store = self.new.store; sessions = self.new.sessions; pass = self.new.pass } }
-        ensures disk { LeavesDisk B.first D.Disk self.old.store self.new.store result }
-    {
-        a_pass_may_leave_out_version_entries();
-        let low = self.sessions.txns.low_mark(self.store.meta());
-        let recent = is_recent(self.store.meta().next(), low);
-        self.pass = self.pass.leaving_out(recent);
-        self.clean_on()
     }
 }

@@ -1,26 +1,47 @@
-use Rattle.std.proofs.Common.{ℕ, ◌∙◌, ap}
-use Rattle.ctr_meta.specs.Kept.{TablesKept}
-use Rattle.ctr_pass.specs.txn_Steps.{mark_in}
-use Rattle.ctr_world.specs.Cleaning.{is_recent}
+use Rattle.std.proofs.Common.{◌≡◌, ℕ, inl, refl, sym, ◌∙◌, ap}
+use Rattle.ctr_store.specs.Store.{View}
+use Rattle.ctr_pass.proofs.session_world_Disks.{as_counted, disk_done}
+use Rattle.ctr_pass.specs.Passing.{noted}
+use Rattle.ctr_pass.specs.declared.pass.Pass.{Pass}
+use Rattle.ctr_world.specs.Cleaning.{noted_pass}
 use Rattle.ctr_world.specs.Held.{running}
-use Rattle.ctr_world.proofs.Cleaned.{AsideLaws, ends_aside, pass_aside, shows_looked}
+use Rattle.ctr_world.proofs.Cleaned.{pass_looked, shows_looked}
+use Rattle.ctr_world.proofs.Passes.{pass_beside}
+use Rattle.ctr_world.proofs.Quiet.{disk_answered}
 use Rattle.ctr_world.proofs.engine.Engine.clean.Goals as goal
 
-pub returns-clause-kept : goal.returns-clause-kept
-returns-clause-kept g c = λ s tells sound shows keeps.
+-- the pass is idle
+pub returns-then-is_idle-clause-kept : goal.returns-then-is_idle-clause-kept
+returns-then-is_idle-clause-kept g c = λ s tells sound shows keeps.
     let w = running c.args.self.now in
-    let pass = c.leaving_out-self.result in
-    let laws : AsideLaws = record { kept = c.a_pass_may_leave_out_version_entries.ensures.kept; idle = c.a_pass_may_leave_out_version_entries.ensures.idle; stays = c.a_pass_may_leave_out_version_entries.ensures.stays } in
-    c.clean_on.ensures.kept s tells sound
-    (shows_looked g.B.Opening g.B.Origin.first g.D.Disk w pass s shows)
-    (pass_aside laws w c.is_recent-recent.result pass c.leaving_out-self.ensures g.B.Opening s keeps)
+    let noted_is : c.noted-noted.result ≡ noted_pass w = c.noted-noted.ensures ∙ ap (λ (n : ℕ). noted w.pass n c.deref.result.now) c.next.ensures ∙ ap (noted w.pass w.store.next) c.deref.ensures.value in
+    let idle = sym (ap (λ (p : Pass). p.phase) noted_is) ∙ c.if-is_idle.ensures.yes refl in
+    (shows_looked g.B.Opening g.B.Origin.first g.D.Disk w c.noted-noted.result s shows, pass_looked g.B.Opening g.B.Origin.first g.D.Disk w c.noted-noted.result s c.an_idle_pass_is_kept.ensures noted_is idle keeps)
 
-pub returns-clause-went : goal.returns-clause-went
-returns-clause-went g c =
+-- a turn for room
+pub returns-in-Ok-clause-kept : goal.returns-in-Ok-clause-kept
+returns-in-Ok-clause-kept g c = λ s tells sound shows keeps.
     let w = running c.args.self.now in
-    let laws : AsideLaws = record { kept = c.a_pass_may_leave_out_version_entries.ensures.kept; idle = c.a_pass_may_leave_out_version_entries.ensures.idle; stays = c.a_pass_may_leave_out_version_entries.ensures.stays } in
-    ends_aside laws w c.is_recent-recent.result c.leaving_out-self.result c.leaving_out-self.ensures (running c.clean_on.new.self)
-    (c.is_recent-recent.ensures
-    ∙ ap (λ (n : ℕ). is_recent n c.low_mark-low.result) (c.next.ensures.next ∙ ap (λ (k : TablesKept). k.tables.next) c.meta-2.ensures.tables)
-    ∙ ap (is_recent w.store.meta.tables.next) (c.low_mark-low.ensures ∙ ap (λ (k : TablesKept). mark_in k.tables w.sessions.txns) c.meta.ensures.tables))
-    c.clean_on.result c.clean_on.ensures.went
+    let e = c.in-Ok.ensures in (
+      e.shows s tells sound shows,
+      pass_beside g.B.Opening s w (running c.made_room.new.self) c.a_pass_is_kept_beside_others.ensures (e.disk.goes tells sound) (record { pass = λ i. (e.same i).pass; undo = inl (λ i. (e.same i).undo) }) e.adds.entries e.adds.tape keeps,
+    )
+
+pub returns-in-Err-clause-kept : goal.returns-in-Err-clause-kept
+returns-in-Err-clause-kept g c = λ s tells sound shows keeps. c.in-Err.ensures.shows s tells sound shows
+
+-- a turn in the pass, and answers
+pub returns-in-Ok-clean_next-clause-kept : goal.returns-in-Ok-clean_next-clause-kept
+returns-in-Ok-clean_next-clause-kept g c = λ s tells sound shows keeps.
+    let mid = running c.clean_next.new.self in
+    let new = running c.answer.new.self in
+    let both = c.in-Ok-clean_next.ensures.kept s tells sound shows keeps in
+    let e = c.answer.ensures in
+    let same : new.store ≡ mid.store = λ i. (e.same i).store in (
+      e.shows s tells sound both.0,
+      pass_beside g.B.Opening s mid new c.a_pass_is_kept_beside_others.ensures (inl (record { next = ap (λ (v : View g.row.D.Denot). v.next) same; now = as_counted mid.store.now new.store.now (ap (λ (v : View g.row.D.Denot). v.now) same) }))
+          (record { pass = λ i. (e.same i).pass; undo = inl (λ i. (e.same i).undo) }) e.adds.entries e.adds.tape both.1,
+    )
+
+pub returns-in-Ok-clean_next-clause-disk : goal.returns-in-Ok-clean_next-clause-disk
+returns-in-Ok-clean_next-clause-disk g c = disk_answered g.B.Origin.first g.D.Disk c.args.self.now.store c.clean_next.new.self.store c.answer.new.self.store _ (λ i. (c.answer.ensures.same i).store) (disk_done g.B.Origin.first g.D.Disk _ _ _ _ c.in-Ok-clean_next.ensures.disk)
