@@ -1,6 +1,7 @@
 -- On the way along a chain of version entries.
-use Rattle.std.proofs.Common.{◌≡◌, ⊎_elim, inl, inr, ℕ, zero, suc, ℤ, cond, true, false, List, [], ◌∷◌, refl, sym, ◌∙◌, ap, subst}
-use Rattle.std.proofs.lemmas.Bool.{eq-eqb, ne_eqb, cases_eq}
+use Rattle.std.proofs.Common.{◌≡◌, ⊎_elim, inl, inr, ℕ, zero, suc, ℤ, cond, Bool, true, false, [], ◌∷◌, refl, sym, ◌∙◌, ap, subst}
+use Rattle.std.proofs.lemmas.Bool.{eq-eqb, eqb-true, ne_eqb, cases_eq, false≢true}
+use Rattle.std.specs.Prelude.{◌==◌, not}
 use Rattle.ctr_page.specs.declared.rows.Place.{Place}
 use Rattle.ctr_area.specs.Areas.{Older, Area}
 use Rattle.ctr_pvs.specs.redo_States.{State}
@@ -9,40 +10,71 @@ use Rattle.ctr_area.specs.Sound.{IsAmong, IsKeptFor, IsUsedSlot, IsOfVersions, A
 use Rattle.ctr_area.proofs.Buckets.{each_of, on_chain}
 use Rattle.ctr_record_effects.specs.States.{area_in}
 use Rattle.ctr_record_effects.specs.Standing.{IsDatabaseState}
-use Rattle.ctr_clean.specs.Older.{HasAlong, IsHadBy, IsLooseIn}
+use Rattle.ctr_clean.specs.Older.{reach, EndsInReach, HasAlong, IsHadBy, IsLooseIn}
 
--- So many steps are left from a place on: the chain has what is sought where the rest has it.
+-- the number before one, and 0 before 0
+abbrev pub before : ℕ → ℕ
+before zero = zero
+before (suc n) = n
+
+-- pointers that lead on lead through the version entry at which they stand
+pub leads_through : (n : ℕ) (older : Place → Older) (Is : Place → Older → Type 0) (at : Place) → (at.page ≡ 0 → ⊥) → Leads n older Is at → Is at (older at) × Leads (before n) older Is (older at).pointer
+leads_through zero older Is at some leads = absurd (some leads)
+leads_through (suc n) older Is at some leads = ⊎_elim (λ none. absurd (some none)) (λ more. more) leads
+
+-- So many steps are left within reach from a place on, and as many or more of the chain: it has what is sought where the rest has it.
 pub record IsOnWay (area : Area) (from at q : Place) (left : ℕ) : Type 0 where
-  pub leads : (e : ℕ) (key : ℤ) → Leads older_bound area.older (IsKeptFor area e key) from → Leads left area.older (IsKeptFor area e key) at
-  pub on : IsAmong q (places_along older_bound area.older from) → IsAmong q (places_along left area.older at)
-  pub back : IsAmong q (places_along left area.older at) → IsAmong q (places_along older_bound area.older from)
+  pub rest : ℕ
+  pub leads : (e : ℕ) (key : ℤ) → Leads older_bound area.older (IsKeptFor area e key) from → Leads rest area.older (IsKeptFor area e key) at
+  pub on : IsAmong q (places_along older_bound area.older from) → IsAmong q (places_along rest area.older at)
+  pub back : IsAmong q (places_along rest area.older at) → IsAmong q (places_along older_bound area.older from)
+  pub near : EndsInReach area from → Leads left area.older (λ p it. Unit {0}) at
 
-pub at_start : (area : Area) (from q : Place) → IsOnWay area from from q 5100000
-unfolding older_bound
-at_start area from q = record { leads = λ e key leads. leads; on = λ in_. in_; back = λ in_. in_ }
+pub at_start : (area : Area) (from q : Place) → IsOnWay area from from q 256
+unfolding reach
+at_start area from q = record { rest = older_bound; leads = λ e key leads. leads; on = λ in_. in_; back = λ in_. in_; near = λ short. short }
 
 module _ (area : Area) (from at q : Place) (n : ℕ) (some : at.page ≡ 0 → ⊥) (way : IsOnWay area from at q (suc n)) where
-  abbrev rest : List Place
-  rest = places_along n area.older (area.older at).pointer
-
   -- what is at the place
-  pub kept_here : (e : ℕ) (key : ℤ) → Leads older_bound area.older (IsKeptFor area e key) from → IsKeptFor area e key at (area.older at) × Leads n area.older (IsKeptFor area e key) (area.older at).pointer
-  kept_here e key leads = ⊎_elim (λ none. absurd (some none)) (λ more. more) (way.leads e key leads)
+  pub kept_here : (e : ℕ) (key : ℤ) → Leads older_bound area.older (IsKeptFor area e key) from → IsKeptFor area e key at (area.older at)
+  kept_here e key leads = (leads_through way.rest area.older (IsKeptFor area e key) at some (way.leads e key leads)).0
 
-  pub found_here : at ≡ q → HasAlong area from q true
-  found_here is = way.back (subst (λ b. IsAmong q (cond b [] (at ∷ rest))) (sym (ne_eqb at.page 0 some)) (inl (sym is)))
+  pub found_here : (e : ℕ) (key : ℤ) → Leads older_bound area.older (IsKeptFor area e key) from → at ≡ q → HasAlong area from q true
+  found_here e key leads is = inl (way.back (by way.rest (way.leads e key leads)))
+    where
+      by : (m : ℕ) → Leads m area.older (IsKeptFor area e key) at → IsAmong q (places_along m area.older at)
+      by zero none = absurd (some none)
+      by (suc m) more = subst (λ b. IsAmong q (cond b [] (at ∷ places_along m area.older (area.older at).pointer))) (sym (ne_eqb at.page 0 some)) (inl (sym is))
 
   pub goes_on : (at ≡ q → ⊥) → (next : Place) → (area.older at).pointer ≡ next → IsOnWay area from next q n
   goes_on other next is = subst (λ p. IsOnWay area from p q n) is (record {
-    leads = λ e key leads. (kept_here e key leads).1;
-    on = λ in_. ⊎_elim (λ here. absurd (other (sym here))) (λ further. further) (subst (λ b. IsAmong q (cond b [] (at ∷ rest))) (ne_eqb at.page 0 some) (way.on in_));
-    back = λ in_. way.back (subst (λ b. IsAmong q (cond b [] (at ∷ rest))) (sym (ne_eqb at.page 0 some)) (inr in_));
+    rest = before way.rest;
+    leads = λ e key leads. (leads_through way.rest area.older (IsKeptFor area e key) at some (way.leads e key leads)).1;
+    on = λ in_. on_by way.rest (way.on in_);
+    back = λ in_. way.back (back_by way.rest in_);
+    near = λ short. (leads_through (suc n) area.older (λ p it. Unit {0}) at some (way.near short)).1;
   })
+    where
+      on_by : (m : ℕ) → IsAmong q (places_along m area.older at) → IsAmong q (places_along (before m) area.older (area.older at).pointer)
+      on_by zero in_ = absurd in_
+      on_by (suc m) in_ = ⊎_elim (λ here. absurd (other (sym here))) (λ further. further) (subst (λ b. IsAmong q (cond b [] (at ∷ places_along m area.older (area.older at).pointer))) (ne_eqb at.page 0 some) in_)
+
+      back_by : (m : ℕ) → IsAmong q (places_along (before m) area.older (area.older at).pointer) → IsAmong q (places_along m area.older at)
+      back_by zero in_ = absurd in_
+      back_by (suc m) in_ = subst (λ b. IsAmong q (cond b [] (at ∷ places_along m area.older (area.older at).pointer))) (sym (ne_eqb at.page 0 some)) (inr in_)
 
 -- the chain ends
 pub ends_here : (area : Area) (from at q : Place) (left : ℕ) → at.page ≡ 0 → IsOnWay area from at q left → HasAlong area from q false
-ends_here area from at q zero none way in_ = way.on in_
-ends_here area from at q (suc n) none way in_ = subst (λ b. IsAmong q (cond b [] (at ∷ places_along n area.older (area.older at).pointer))) (eq-eqb at.page 0 none) (way.on in_)
+ends_here area from at q left none way in_ = by way.rest (way.on in_)
+  where
+    by : (m : ℕ) → IsAmong q (places_along m area.older at) → ⊥
+    by zero in_ = in_
+    by (suc m) in_ = subst (λ b. IsAmong q (cond b [] (at ∷ places_along m area.older (area.older at).pointer))) (eq-eqb at.page 0 none) in_
+
+-- no step is left within reach: the chain ends, or goes on further
+pub is_far : (area : Area) (from at q : Place) (b : Bool) → (at.page == 0) ≡ b → IsOnWay area from at q 0 → HasAlong area from q (not b)
+is_far area from at q true none way = ends_here area from at q 0 (eqb-true at.page 0 none) way
+is_far area from at q false some way = inr (λ short. false≢true (sym some ∙ eq-eqb at.page 0 (way.near short)))
 
 pub same_place : (a b : Place) → a.page ≡ b.page → a.slot ≡ b.slot → a ≡ b
 same_place a b page slot = ap (λ p. record { page = p; slot = a.slot }) page ∙ ap (λ s. record { page = b.page; slot = s }) slot

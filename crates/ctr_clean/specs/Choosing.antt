@@ -15,6 +15,10 @@ use Rattle.ctr_clean.specs.declared.choosing.SlotTask.TheVariants.{Nothing, Reve
 abbrev pub passes_below : ℕ → Tables → ℕ → Bool
 passes_below low tables x = is_committed_in tables x && nat_lt x low
 
+-- Somebody may not see yet what a transaction did, although it is committed.
+abbrev pub waits_above : ℕ → Tables → ℕ → Bool
+waits_above low tables x = is_committed_in tables x && not (nat_lt x low)
+
 -- What the cleaner knows of a slot: whether it is used; and if so its key, whose its head is and
 -- whether that is a tombstone, whose its previous version is, and whether a pointer leads on.
 pub record Tells (slot : Slot) (f : SlotFacts) : Type 0 where

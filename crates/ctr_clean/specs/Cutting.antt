@@ -3,22 +3,24 @@ use Rattle.std.specs.Prelude.{◌≡◌, ◌≢◌, ℕ, Bool, true, false, Opti
 use Rattle.ctr_page.specs.declared.rows.Place.{Place}
 use Rattle.ctr_pvs.specs.redo_States.{State}
 use Rattle.ctr_area.specs.Areas.{Slot, Area}
-use Rattle.ctr_area.specs.Chains.{older_bound, places_along}
+use Rattle.ctr_area.specs.Chains.{places_along}
 use Rattle.ctr_record_effects.specs.States.{area_in}
 use Rattle.ctr_record_laws.specs.Owed.{IsFirstPassing, PreviousStays, OwedByCut}
 use Rattle.ctr_actions.specs.Actions.{Cuts}
 use Rattle.ctr_clean.specs.Choosing.{passes_below}
+use Rattle.ctr_clean.specs.Older.{reach}
 use Rattle.ctr_clean.specs.Steps.{Locks, IsUnlocked, CleansOne}
 use Rattle.ctr_clean.specs.declared.steps.Step.{Step}
 use Rattle.ctr_clean.specs.declared.steps.Step.TheVariants.{Cleaned, Nothing}
 
--- of the version entries of a chain that begins at a place this is the first whose version passes
+-- of the version entries within reach of a chain that begins at a place this is the first whose
+-- version passes
 abbrev pub IsFirstFrom : (ℕ → Bool) → Area → Place → Place → Type 0
 IsFirstFrom passes area from q =
-    IsFirstPassing passes area.older q (places_along older_bound area.older from)
+    IsFirstPassing passes area.older q (places_along reach area.older from)
 
--- This one is the first of a chain whose version passes, and another one is behind it; or no such
--- one has another behind it.
+-- This one is the first within reach of a chain whose version passes, and another one is behind it;
+-- or no such one has another behind it.
 abbrev pub IsCutAlong : (ℕ → Bool) → Area → Place → Option Place → Type 0
 IsCutAlong passes area from (Some q) =
     IsFirstFrom passes area from q × ((area.older q).pointer.page ≢ 0)
@@ -32,11 +34,12 @@ OwnPasses passes slot true =
 OwnPasses passes slot false =
     (passes slot.head.0 ≡ false) × PreviousStays passes slot.previous
 
--- what is owed for the chain of a slot to be cut behind a version entry
+-- what is owed for the chain of a slot to be cut behind a version entry, which is within reach
 abbrev pub OwesCut : ℕ → ℕ → Place → State → Place → Type 0
 OwesCut low e at s q = OwedByCut (passes_below low s.tables) (area_in s) e at q
+    × IsFirstFrom (passes_below low s.tables) (area_in s) ((area_in s).slot at).pointer q
 
--- the chain of a slot may not be cut behind any, unless its row is locked
+-- the chain of a slot may not be cut behind any within reach, unless its row is locked
 abbrev pub HasNoCut : ℕ → Locks → ℕ → Place → State → Type 0
 HasNoCut low locks e at s = IsUnlocked locks e ((area_in s).slot at).key → (q : Place)
     → OwesCut low e at s q → ⊥

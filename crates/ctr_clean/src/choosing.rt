@@ -7,7 +7,7 @@ ghost use Rattle.ctr_meta.specs.Tables.{is_in};
 ghost use Rattle.ctr_area.specs.Areas.{Slot};
 ghost use Rattle.ctr_area.specs.Reading.{slot_said};
 ghost use Rattle.ctr_pvs.specs.Slots.{slot_lent};
-ghost use Rattle.ctr_clean.specs.Choosing.{passes_below, Tells, IsTrimOf, IsTask};
+ghost use Rattle.ctr_clean.specs.Choosing.{passes_below, waits_above, Tells, IsTrimOf, IsTask};
 
 use ctr_dead::TrimWay;
 use ctr_meta::Meta;
@@ -69,6 +69,13 @@ pub(crate) fn passes(meta: &Meta, low: Xid, x: Xid) -> bool
     ensures { result ≡ passes_below low meta.now.tables x }
 {
     x != 0 && meta.fate(x) == Fate::Committed && x < low
+}
+
+/// Whether somebody may not see yet what a transaction did that is committed.
+pub(crate) fn waits(meta: &Meta, low: Xid, x: Xid) -> bool
+    ensures { result ≡ waits_above low meta.now.tables x }
+{
+    x != 0 && meta.fate(x) == Fate::Committed && !(x < low)
 }
 
 /// How a used slot may be trimmed: where everybody sees its head, or its previous version, what is behind goes; and a tombstone that everybody

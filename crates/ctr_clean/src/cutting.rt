@@ -20,7 +20,7 @@ ghost use Rattle.ctr_clean.specs.Cutting.{IsCutAlong, OwnPasses, GoesBehind, Cut
 
 use crate::choosing::{SlotFacts, passes};
 use crate::heads::behind_at;
-use crate::older::{MOST_OLDER, look_older};
+use crate::older::{REACH, look_older};
 use crate::steps::{Step, look_at};
 use ctr_dead::{a_place_of_a_table_fits, a_turn_goes_on, cut_behind, room_is_still_there};
 use ctr_disk::{Disk, StoreFault};
@@ -32,7 +32,7 @@ use ctr_pvs::{Origin, Store};
 use ctr_types::Xid;
 
 /// Where a chain may be cut that begins at a place, behind a slot: at the first version entry whose version everybody sees, where another is
-/// behind it. Each version entry up to that is read.
+/// behind it. Each version entry up to that is read, as far as reach goes.
 fn cut_along<D: Disk, O: Origin>(
     store: &mut Store<D, O>,
     low: Xid,
@@ -50,7 +50,7 @@ fn cut_along<D: Disk, O: Origin>(
     a_place_of_a_table_fits();
     store.rests();
     let mut at = from;
-    let mut left = MOST_OLDER;
+    let mut left = REACH;
     while left != 0 {
         if at.page == 0 {
             return Ok(None);
@@ -164,7 +164,8 @@ fn cut_place<D: Disk, O: Origin>(
 }
 
 /// Cuts the chain of the slot at a place of a live table behind the first version entry whose version everybody sees, where that is no version of the
-/// slot's own, another is behind it, and the row isn't locked, by one record, which isn't hardened yet. It takes no memory.
+/// slot's own, another is behind it, and the row isn't locked, by one record, which isn't hardened yet. The first 256 version entries of the
+/// chain are read, at most: one that is further behind isn't looked for. It takes no memory.
 pub fn cut_at<D: Disk, O: Origin>(
     store: &mut Store<D, O>,
     locks: &KeyLocks,
@@ -180,7 +181,7 @@ pub fn cut_at<D: Disk, O: Origin>(
     // No transaction and no item is added to the tables, and as many pages are counted.
     ensures left { OnOk result (AddsItems 0 store.old.meta store.new.meta) }
     ensures counted { OnOk result (store.new.now.counted ≡ store.old.now.counted) }
-    // The slot's chain is cut behind a version entry; or it may not be behind any, unless its row is locked.
+    // The slot's chain is cut behind a version entry; or it may not be behind any within reach, unless its row is locked.
     ensures cleans { WhereSound O.first D.Disk (IsDatabaseState store.old.now → IsAmong place (slot_places (area_in store.old.now) entry)
         → is_live ((area_in store.old.now).title entry) ≡ true → IfOk result (CutsAt low locks.now entry place store.old.now store.new.now)) }
     // It is refused for no other cause than that the disk failed.

@@ -4,7 +4,8 @@ ghost use Rattle.ctr_types.specs.declared.value.Column.{Column};
 ghost use Rattle.ctr_disk.specs.declared.fault.StoreFault.TheVariants.{Fault};
 ghost use Rattle.ctr_pvs.specs.base_Base.{WhereSound};
 ghost use Rattle.ctr_pvs.specs.store_Store.{LeavesPage};
-ghost use Rattle.ctr_area.specs.Areas.{Older};
+ghost use Rattle.ctr_pvs.specs.redo_States.{State};
+ghost use Rattle.ctr_page.specs.declared.rows.Place.{Place as PlaceOf};
 ghost use Rattle.ctr_area.specs.Chains.{older_bound, older_places, Leads};
 ghost use Rattle.ctr_area.specs.Images.{is_live};
 ghost use Rattle.ctr_area.specs.Reading.{older_said};
@@ -19,6 +20,7 @@ ghost use Rattle.ctr_dead.specs.page_turns_Turns.{Turns};
 ghost use Rattle.ctr_clean.specs.Steps.{next_stepped};
 ghost use Rattle.ctr_clean.specs.Older.{IsSaid, IsOpenKey, HasAlong, IsHadBy, LooseAt, FreesAt};
 
+use crate::choosing::waits;
 use crate::heads::behind_at;
 use crate::steps::Step;
 use ctr_dead::{
@@ -27,13 +29,15 @@ use ctr_dead::{
 };
 use ctr_disk::{Disk, StoreFault};
 use ctr_locks::KeyLocks;
+use ctr_meta::Meta;
 use ctr_model::Key;
 use ctr_page::Place;
 use ctr_pvs::{LentVersion, Origin, Store, version};
 use ctr_types::Xid;
 
-/// As many version entries as stand on all pages that can be counted: no chain has more.
-pub(crate) const MOST_OLDER: u32 = 5_100_000;
+/// How many version entries of a row's chain a step looks at, at most. What goes on further is left for another pass, so that no turn is long
+/// while an old snapshot keeps many versions of a row.
+pub(crate) const REACH: u32 = 256;
 
 /// What there is to know of a version entry: whether it is used; and if so the key, whose the version is, and where it leads.
 #[derive(Clone, Copy, Debug, PartialEq, Eq)]
@@ -92,7 +96,8 @@ fn is_place(a: Place, b: Place) -> bool
     a.page == b.page && a.slot == b.slot
 }
 
-/// Whether the chain that begins at a place, behind a slot, has the version entry at another. Each version entry of the chain is read.
+/// Whether the chain that begins at a place, behind a slot, has the version entry at another, or goes on beyond reach: so many version entries
+/// are read, at most.
 fn chain_has<D: Disk, O: Origin>(
     store: &mut Store<D, O>,
     from: Place,
@@ -108,7 +113,7 @@ fn chain_has<D: Disk, O: Origin>(
     a_place_of_a_table_fits();
     store.rests();
     let mut at = from;
-    let mut left = MOST_OLDER;
+    let mut left = REACH;
     while left != 0 {
         if at.page == 0 {
             return Ok(false);
@@ -125,10 +130,10 @@ fn chain_has<D: Disk, O: Origin>(
         }
         left -= 1;
     }
-    Ok(false)
+    Ok(at.page != 0)
 }
 
-/// Whether the chain of the row of a key has the version entry at a place.
+/// Whether the chain of the row of a key has the version entry at a place, or goes on beyond reach.
 fn row_has<D: Disk, O: Origin>(
     store: &mut Store<D, O>,
     entry: u8,
@@ -152,20 +157,46 @@ fn row_has<D: Disk, O: Origin>(
     }
 }
 
-/// The key of a version entry that is in use and whose row isn't locked.
-fn open_key(locks: &KeyLocks, entry: u8, facts: &OlderFacts) -> Option<i64>
-    ensures { (older : Older) → IsSaid older facts.now → IsOpenKey locks.now entry older result }
+/// The key of a version entry, by what is known of it, where it is in use, its row isn't locked, and its version isn't of a commit that somebody may
+/// not see yet: most versions that an old snapshot keeps are, and in their row's chain.
+fn open_key(meta: &Meta, locks: &KeyLocks, low: Xid, entry: u8, facts: &OlderFacts) -> Option<i64>
+    ensures { (s : State) (q : PlaceOf) → meta.now.tables ≡ s.tables → IsSaid ((area_in s).older q) facts.now → IsOpenKey locks.now low entry s q result }
 {
-    if !facts.used || locks.locked(entry, Key::new(facts.key)).is_some() {
+    if !facts.used || waits(meta, low, facts.xid) {
+        return None;
+    }
+    if locks.locked(entry, Key::new(facts.key)).is_some() {
         return None;
     }
     Some(facts.key)
 }
 
-/// Whether the version entry at a place of a table is in use and in no chain, and its row isn't locked.
+/// The same of a store.
+fn open_at<D: Disk, O: Origin>(
+    store: &mut Store<D, O>,
+    locks: &KeyLocks,
+    low: Xid,
+    entry: u8,
+    place: Place,
+) -> Result<Option<i64>, StoreFault>
+    requires going { store.old.stopped ≡ false }
+    requires counted { place.page < store.old.now.counted }
+    ensures tells { WhereSound O.first D.Disk (IfOk result (IsOpenKey locks.now low entry store.old.now place)) }
+    ensures leaves { ReadsPages O.first D.Disk store.old store.new result }
+    ensures refused { (e : ℕ) → WhereSound O.first D.Disk (IsDatabaseState store.old.now → IsAmong place (older_places (area_in store.old.now) e) → IfErr result (λ f. f ≡ Fault)) }
+{
+    match look_older(store, place) {
+        Err(fault) => Err(fault),
+        Ok(facts) => Ok(open_key(store.meta(), locks, low, entry, &facts)),
+    }
+}
+
+/// Whether the version entry at a place of a table is in use and in no chain, and its row isn't locked; where it is of a commit that somebody may
+/// not see yet, or its row's chain goes on beyond reach, that isn't known, and it stays.
 fn loose_at<D: Disk, O: Origin>(
     store: &mut Store<D, O>,
     locks: &KeyLocks,
+    low: Xid,
     entry: u8,
     place: Place,
 ) -> Result<bool, StoreFault>
@@ -173,27 +204,27 @@ fn loose_at<D: Disk, O: Origin>(
     requires counted { place.page < store.old.now.counted }
     requires there { entry < 32 }
     ensures chooses { WhereSound O.first D.Disk (IsDatabaseState store.old.now → IsAmong place (older_places (area_in store.old.now) entry)
-        → IfOk result (LooseAt locks.now entry place store.old.now)) }
+        → IfOk result (LooseAt low locks.now entry place store.old.now)) }
     ensures leaves { ReadsPages O.first D.Disk store.old store.new result }
     ensures refused { WhereSound O.first D.Disk (IsDatabaseState store.old.now → IsAmong place (older_places (area_in store.old.now) entry) → IfErr result (λ f. f ≡ Fault)) }
 {
-    match look_older(store, place) {
+    match open_at(store, locks, low, entry, place) {
         Err(fault) => Err(fault),
-        Ok(facts) => match open_key(locks, entry, &facts) {
-            None => Ok(false),
-            Some(key) => match row_has(store, entry, key, place) {
-                Err(fault) => Err(fault),
-                Ok(has) => Ok(!has),
-            },
+        Ok(None) => Ok(false),
+        Ok(Some(key)) => match row_has(store, entry, key, place) {
+            Err(fault) => Err(fault),
+            Ok(has) => Ok(!has),
         },
     }
 }
 
-/// Frees the version entry at a place of a live table where no chain has it and its row isn't locked, by one record, which isn't hardened yet.
-/// The row is found by its key, along the chain of its bucket, and each version entry of its chain is read. It takes no memory.
+/// Frees the version entry at a place of a live table where no chain has it and its row isn't locked, by one record, which isn't hardened yet. One
+/// of a commit that somebody may not see yet stays, and no row is looked at for it. Else the row is found by its key, along the chain of its
+/// bucket, and at most 256 version entries of its chain are read: where it has more, the version entry stays. It takes no memory.
 pub fn free_older_at<D: Disk, O: Origin>(
     store: &mut Store<D, O>,
     locks: &KeyLocks,
+    low: Xid,
     entry: u8,
     place: Place,
 ) -> Result<Step, StoreFault>
@@ -205,8 +236,9 @@ pub fn free_older_at<D: Disk, O: Origin>(
     // No transaction and no item is added to the tables, and as many pages are counted.
     ensures left { OnOk result (AddsItems 0 store.old.meta store.new.meta) }
     ensures counted { OnOk result (store.new.now.counted ≡ store.old.now.counted) }
-    // The version entry is free, whoever is seen by all; or it isn't in use, or a chain has it, unless its row is locked.
-    ensures cleans { (low : ℕ) → WhereSound O.first D.Disk (IsDatabaseState store.old.now → IsAmong place (older_places (area_in store.old.now) entry)
+    // The version entry is free; or it isn't in use, or of a commit that somebody may not see yet, or a chain has it, or its row's goes on
+    // beyond reach, unless its row is locked.
+    ensures cleans { WhereSound O.first D.Disk (IsDatabaseState store.old.now → IsAmong place (older_places (area_in store.old.now) entry)
         → is_live ((area_in store.old.now).title entry) ≡ true → IfOk result (FreesAt low locks.now entry place store.old.now store.new.now)) }
     // It is refused for no other cause than that the disk failed.
     ensures refused { WhereSound O.first D.Disk (IsDatabaseState store.old.now → IsAmong place (older_places (area_in store.old.now) entry)
@@ -215,7 +247,7 @@ pub fn free_older_at<D: Disk, O: Origin>(
     a_turn_goes_on::<D, bool, Step>();
     a_turn_goes_on::<D, (), Step>();
     room_is_still_there::<D>();
-    match loose_at(store, locks, entry, place) {
+    match loose_at(store, locks, low, entry, place) {
         Err(fault) => Err(fault),
         Ok(false) => Ok(Step::Nothing),
         Ok(true) => match free_loose(store, place) {

@@ -272,7 +272,7 @@ module _ (low : ℕ) (locks : Locks) (e : ℕ) (at : Place) (s : State) where
   nothing_dead isnt unlocked none = record { heads = none unlocked; slots = λ live. absurd (false≢true (sym isnt ∙ live)); chains = λ live. absurd (false≢true (sym isnt ∙ live)) }
 
   pub nothing_closed : (((area_in s).slot at).used ≡ true → IsFreeRow locks s e ((area_in s).slot at).key → ⊥) → IsFreeRow locks s e ((area_in s).slot at).key → HasNothingInSlot low e at s
-  nothing_closed closed free = record { heads = λ way owed. closed owed.used.1 free; slots = λ live way owed. closed owed.used.1 free; chains = λ live q owed. closed owed.used.1 free }
+  nothing_closed closed free = record { heads = λ way owed. closed owed.used.1 free; slots = λ live way owed. closed owed.used.1 free; chains = λ live q owed. closed owed.0.used.1 free }
 
 -- ---- at a version entry
 

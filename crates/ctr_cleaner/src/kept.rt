@@ -27,6 +27,7 @@ use ctr_locking::{TitleRead, title_at};
 use ctr_locks::KeyLocks;
 use ctr_model::Key;
 use ctr_page::Place;
+use ctr_types::Xid;
 use ctr_walk::{Origin, Store};
 
 /// Whether the version entry at a place is used, of a row that isn't locked, in an entry of its table's name.
@@ -56,13 +57,14 @@ fn is_open_older<D: Disk, O: Origin>(
 fn clean_older<D: Disk, O: Origin>(
     store: &mut Store<D, O>,
     locks: &KeyLocks,
+    low: Xid,
     entry: u8,
     place: Place,
 ) -> Result<Done, StoreFault>
     requires room { HasRoomForOne 0 0 store.old }
     requires there { (entry < 32) × (place.page < store.old.now.counted) }
     ensures tries { Tries false O.first D.Disk store.old store.new result }
-    ensures cleans { (low spared : ℕ) (may : MayEmpty) → WhereSound O.first D.Disk (IsDatabaseState store.old.now → IsPosition (Kept entry place) (site_of store.old.now)
+    ensures cleans { (spared : ℕ) (may : MayEmpty) → WhereSound O.first D.Disk (IsDatabaseState store.old.now → IsPosition (Kept entry place) (site_of store.old.now)
         → is_live_title ((area_in store.old.now).title entry) ≡ true → IfOk result (DidAt (heeding low locks.now spared may) (Kept entry place)
         (HasNothingAt (IsFreeRow locks.now store.old.now) low (Kept entry place) store.old.now) store.old.now store.new.now)) }
     ensures refused { WhereSound O.first D.Disk (IsDatabaseState store.old.now → IsPosition (Kept entry place) (site_of store.old.now)
@@ -73,7 +75,7 @@ fn clean_older<D: Disk, O: Origin>(
     match is_open_older(store, locks, entry, place) {
         Err(fault) => Err(fault),
         Ok(false) => Ok(None),
-        Ok(true) => stepped(free_older_at(store, locks, entry, place)),
+        Ok(true) => stepped(free_older_at(store, locks, low, entry, place)),
     }
 }
 
@@ -81,13 +83,14 @@ fn clean_older<D: Disk, O: Origin>(
 pub(crate) fn clean_kept<D: Disk, O: Origin>(
     store: &mut Store<D, O>,
     locks: &KeyLocks,
+    low: Xid,
     entry: u8,
     place: Place,
 ) -> Result<Done, StoreFault>
     requires room { HasRoomForOne 0 0 store.old }
     requires there { (entry < 32) × (place.page < store.old.now.counted) }
     ensures tries { Tries false O.first D.Disk store.old store.new result }
-    ensures cleans { (low spared : ℕ) (may : MayEmpty) → WhereSound O.first D.Disk (IsDatabaseState store.old.now → IsPosition (Kept entry place) (site_of store.old.now)
+    ensures cleans { (spared : ℕ) (may : MayEmpty) → WhereSound O.first D.Disk (IsDatabaseState store.old.now → IsPosition (Kept entry place) (site_of store.old.now)
         → IfOk result (DidAt (heeding low locks.now spared may) (Kept entry place)
         (HasNothingAt (IsFreeRow locks.now store.old.now) low (Kept entry place) store.old.now) store.old.now store.new.now)) }
     ensures refused { WhereSound O.first D.Disk (IsDatabaseState store.old.now → IsPosition (Kept entry place) (site_of store.old.now) → IfErr result (λ f. f ≡ Fault)) }
@@ -98,7 +101,7 @@ pub(crate) fn clean_kept<D: Disk, O: Origin>(
         Err(fault) => Err(fault),
         Ok(title) => {
             if is_live(&title) {
-                clean_older(store, locks, entry, place)
+                clean_older(store, locks, low, entry, place)
             } else {
                 Ok(None)
             }

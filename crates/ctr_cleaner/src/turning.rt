@@ -42,7 +42,7 @@ fn clean_at<D: Disk, O: Origin>(
     match at {
         Position::Entry { entry } => clean_entry(store, low, entry, may),
         Position::Slot { entry, place, .. } => clean_row(store, locks, low, entry, place),
-        Position::Kept { entry, place } => clean_kept(store, locks, entry, place),
+        Position::Kept { entry, place } => clean_kept(store, locks, low, entry, place),
         Position::Aborted { nth } => stepped(forget_at(store, nth)),
     }
 }

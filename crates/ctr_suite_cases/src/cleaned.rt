@@ -120,7 +120,7 @@ fn clean(store: &mut Mem, beside: Beside, task: Task) -> Result<Step, Trouble>
             Ok(revert_at(store, locks, entry, place)?)
         }
         Task::Kept { entry, place } if entry < ENTRIES && place.page < store.counted() => {
-            Ok(free_older_at(store, locks, entry, place)?)
+            Ok(free_older_at(store, locks, low, entry, place)?)
         }
         Task::Reclaim => Ok(reclaim(store, 0)?),
         Task::Entry { entry } if entry < ENTRIES => Ok(make_dead_at(store, low, entry)?),

@@ -57,7 +57,7 @@ returns-in-Err-cut_behind-clause-refused g c = λ told sound database among live
     let passes = passes_below c.args.low s.tables in
     let chosen = subst (CutsBehind c.args.low c.args.locks.now e at s) c.in-Ok-Some.field-0-is (c.in-Ok-Some.ensures.chooses told sound database among) in
     subst (λ (u : State). IsDatabaseState u → OwedByCut passes (area_in u) e at c.in-Ok-Some.q → c.in-Err-cut_behind.fault ≡ Fault) (c.in-Ok-Some.ensures.leaves.logs told sound).now
-    (c.in-Err-cut_behind.ensures.refused e passes at told sound) database chosen.1
+    (c.in-Err-cut_behind.ensures.refused e passes at told sound) database chosen.1.0
 
 pub returns-in-Ok-clause-turns : goal.returns-in-Ok-clause-turns
 returns-in-Ok-clause-turns g c =
@@ -80,7 +80,7 @@ returns-in-Ok-clause-cleans g c = λ told sound database among live.
         cleaning = (refl, live);
         free = chosen.0;
         acts = subst (λ (u : State). IsDatabaseState u → OwedByCut passes (area_in u) e at q → ActsBy s.tables.next (Cuts passes e at q) u c.cut_behind.new.store.now)
-            (c.in-Ok-Some.ensures.leaves.logs told sound).now (c.in-Ok.ensures.acts s.tables.next e passes at told sound) database chosen.1;
+            (c.in-Ok-Some.ensures.leaves.logs told sound).now (c.in-Ok.ensures.acts s.tables.next e passes at told sound) database chosen.1.0;
       },
       (q, refl),
     )

@@ -13,13 +13,16 @@ use Rattle.ctr_clean.specs.Choosing.{passes_below}
 use Rattle.ctr_clean.specs.Steps.{Locks}
 use Rattle.ctr_clean.specs.Cutting.{IsCutAlong, GoesBehind, CutsBehind}
 use Rattle.ctr_clean.proofs.Resting.{reads_on}
+use Rattle.ctr_clean.proofs.Passed.{first_of_all}
 use Rattle.ctr_clean.proofs.cutting.cut_place.Goals as goal
 
 -- where the chain off a slot may be cut, the slot's may be, by what is known of the slot
 cut_by : (low : _) (locks : Locks) (e : _) (at : Place) (s : State) → IsAmong at (slot_places (area_in s) e) → GoesBehind low locks e at s true → (result : Result (Option Place) StoreFault)
     → IfOk result (IsCutAlong (passes_below low s.tables) (area_in s) ((area_in s).slot at).pointer) → IfOk result (CutsBehind low locks e at s)
-cut_by low locks e at s among goes (Ok (Some q)) found = (goes.1, record { used = (among, goes.0); head = goes.2; previous = goes.3; first = found.0; some = found.1 })
-cut_by low locks e at s among goes (Ok None) none = λ unlocked q owed. none q owed.first owed.some
+cut_by low locks e at s among goes (Ok (Some q)) found =
+    let first = first_of_all (passes_below low s.tables) (area_in s) ((area_in s).slot at).pointer q found.0 in
+    (goes.1, (record { used = (among, goes.0); head = goes.2; previous = goes.3; first = first; some = found.1 }, found.0))
+cut_by low locks e at s among goes (Ok None) none = λ unlocked q owed. none q owed.1 owed.0.some
 cut_by low locks e at s among goes (Err f) ends = tt
 
 pub returns-in-Err-clause-leaves : goal.returns-in-Err-clause-leaves

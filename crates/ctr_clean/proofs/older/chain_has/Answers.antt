@@ -1,5 +1,5 @@
 use Rattle.std.proofs.Common.{◌≡◌, ℕ, suc, ◌-◌, Bool, Ok, refl, ◌∙◌, ap, subst, arith}
-use Rattle.std.specs.Prelude.{⊤}
+use Rattle.std.specs.Prelude.{◌==◌, ⊤}
 use Rattle.ctr_disk.specs.declared.fault.StoreFault.TheVariants.{Fault}
 use Rattle.ctr_pvs.specs.redo_States.{State}
 use Rattle.ctr_area.specs.Chains.{older_places}
@@ -10,7 +10,7 @@ use Rattle.ctr_pvs.proofs.walk_Damages.{reads_err, reads_behind}
 use Rattle.ctr_pvs.proofs.walk_Joins.{pages_join, answers_ok}
 use Rattle.ctr_clean.specs.declared.older.OlderFacts.{OlderFacts}
 use Rattle.ctr_clean.proofs.Resting.{rests_read}
-use Rattle.ctr_clean.proofs.Along.{IsOnWay, at_start, kept_here, found_here, goes_on, ends_here}
+use Rattle.ctr_clean.proofs.Along.{IsOnWay, at_start, kept_here, found_here, goes_on, ends_here, is_far}
 use Rattle.ctr_clean.proofs.older.chain_has.Goals as goal
 
 -- one step is left, and more
@@ -30,7 +30,7 @@ returns-then-at-counted-clause-tells g c = λ e key told sound database leads.
     let at = c.loop-left.at in
     let n = c.loop-left.left in
     let way = subst (IsOnWay area c.args.from at c.args.sought) (one_more n c.loop-left-test.true) (c.loop-left.invariant.1 told sound) in
-    let kept = (kept_here area c.args.from at c.args.sought (n - 1) c.if-at-eq0.false way e key leads).0 in
+    let kept = kept_here area c.args.from at c.args.sought (n - 1) c.if-at-eq0.false way e key leads in
     let inside = (c.a_place_of_a_table_fits.ensures.versions s e at database kept.0).4 in
     let same : c.counted.result ≡ s.counted = c.counted.ensures ∙ ap (λ (u : State). u.counted) (c.loop-left.invariant.0.logs told sound).now in
     absurd (omega (arith, inside, same, c.if-at-counted.true))
@@ -41,7 +41,7 @@ returns-then-is_place-clause-tells g c = λ e key told sound database leads.
     let at = c.loop-left.at in
     let n = c.loop-left.left in
     let way = subst (IsOnWay area c.args.from at c.args.sought) (one_more n c.loop-left-test.true) (c.loop-left.invariant.1 told sound) in
-    found_here area c.args.from at c.args.sought (n - 1) c.if-at-eq0.false way (c.if-is_place.ensures.yes refl)
+    found_here area c.args.from at c.args.sought (n - 1) c.if-at-eq0.false way e key leads (c.if-is_place.ensures.yes refl)
 
 pub returns-in-Err-clause-leaves : goal.returns-in-Err-clause-leaves
 returns-in-Err-clause-leaves g c =
@@ -56,7 +56,7 @@ returns-in-Err-clause-refused g c = λ e key told sound database leads.
     let at = c.loop-left.at in
     let n = c.loop-left.left in
     let way = subst (IsOnWay area c.args.from at c.args.sought) (one_more n c.loop-left-test.true) (c.loop-left.invariant.1 told sound) in
-    let kept = (kept_here area c.args.from at c.args.sought (n - 1) c.if-at-eq0.false way e key leads).0 in
+    let kept = kept_here area c.args.from at c.args.sought (n - 1) c.if-at-eq0.false way e key leads in
     subst (λ (u : State). IsDatabaseState u → IsAmong at (older_places (area_in u) e) → c.in-Err.fault ≡ Fault) (c.loop-left.invariant.0.logs told sound).now (c.in-Err.ensures.refused e told sound) database kept.0
 
 pub loop-left-preserved : goal.loop-left-preserved
@@ -75,3 +75,10 @@ loop-left-preserved g c =
           goes_on area c.args.from at c.args.sought (n - 1) c.if-at-eq0.false way (c.if-is_place.ensures.no refl) facts.next
           (subst (λ (u : State). ((area_in u).older at).pointer ≡ facts.next) (c.loop-left.invariant.0.logs told sound).now (c.in-Ok.ensures.tells told sound).next),
     )
+
+pub returns-clause-tells : goal.returns-clause-tells
+returns-clause-tells g c = λ e key told sound database leads.
+    let area = area_in c.args.store.now.now in
+    let at = c.loop-left.at in
+    is_far area c.args.from at c.args.sought (at.page == 0) refl
+    (subst (IsOnWay area c.args.from at c.args.sought) c.loop-left-test.false (c.loop-left.invariant.1 told sound))

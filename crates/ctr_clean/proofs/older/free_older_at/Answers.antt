@@ -48,11 +48,11 @@ returns-in-Ok-clause-turns g c =
     (c.a_turn_goes_on-2.ensures.answered first mid new tt Cleaned (frees_turn first g.D.Disk c.args.place mid new (Ok tt) c.in-Ok.ensures.one))
 
 pub returns-in-Ok-clause-cleans : goal.returns-in-Ok-clause-cleans
-returns-in-Ok-clause-cleans g c = λ low told sound database among live.
+returns-in-Ok-clause-cleans g c = λ told sound database among live.
     let s = c.args.store.now.now in
     let e = c.args.entry in
     let q = c.args.place in
-    let chosen = subst (LooseAt c.args.locks.now e q s) c.in-Ok-true.field-0-test (c.in-Ok-true.ensures.chooses told sound database among) in (
+    let chosen = subst (LooseAt c.args.low c.args.locks.now e q s) c.in-Ok-true.field-0-test (c.in-Ok-true.ensures.chooses told sound database among) in (
       record {
         action = FreesOlder e q;
         cleaning = live;

@@ -27,7 +27,7 @@ use Rattle.ctr_clean.proofs.older.row_has.Goals as goal
 -- the row was found, and what its chain has
 had : (s : State) (e : _) (key : ℤ) (at from q : Place) → IsDatabaseState s → FindsKey (area_in s) e key (Some at) → ((area_in s).slot at).pointer ≡ from
     → (result : Result Bool StoreFault) → IfOk result (HasAlong (area_in s) from q) → IfOk result (IsHadBy e key q s)
-had s e key at from q database found is (Ok true) has = (at, found.0, subst (λ p. IsAmong q (places_along older_bound (area_in s).older p)) (sym is) has)
+had s e key at from q database found is (Ok true) has = (at, found.0, found.1, subst (λ p. HasAlong (area_in s) p q true) (sym is) has)
 had s e key at from q database found is (Ok false) has = λ b used key_is in_.
     has (subst (λ p. IsAmong q (places_along older_bound (area_in s).older p)) is
     (subst (λ (p : Place). IsAmong q (places_along older_bound (area_in s).older ((area_in s).slot p).pointer)) (database.sound.keys.once e b at used found.0 (key_is ∙ sym found.1)) in_))

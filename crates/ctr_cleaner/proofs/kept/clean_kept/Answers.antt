@@ -22,15 +22,15 @@ pub returns-then-is_live-clause-tries : goal.returns-then-is_live-clause-tries
 returns-then-is_live-clause-tries g c = c.a_part_reads.ensures.behind _ g.O.Origin.first c.args.store.now c.title_at.new.store c.clean_older.new.store c.in-Ok.title c.clean_older.result c.in-Ok.ensures.leaves c.clean_older.ensures.tries
 
 pub returns-then-is_live-clause-cleans : goal.returns-then-is_live-clause-cleans
-returns-then-is_live-clause-cleans g c = λ low spared may told sound database its.
+returns-then-is_live-clause-cleans g c = λ spared may told sound database its.
     let s = c.args.store.now.now in
     let new = c.clean_older.new.store.now in
     let e = c.args.entry in
     let q = c.args.place in
     let locks = c.args.locks.now in
     subst (λ (u : State). IsDatabaseState u → IsPosition (Kept e q) (site_of u) → is_live ((area_in u).title e) ≡ true
-    → IfOk c.clean_older.result (DidAt (heeding low locks spared may) (Kept e q) (HasNothingAt (IsFreeRow locks u) low (Kept e q) u) u new))
-    (c.in-Ok.ensures.leaves.logs told sound).now (c.clean_older.ensures.cleans low spared may told sound) database its (c.is_live.ensures ((area_in s).title e) (c.in-Ok.ensures.tells told sound) ∙ c.if-is_live.true)
+    → IfOk c.clean_older.result (DidAt (heeding c.args.low locks spared may) (Kept e q) (HasNothingAt (IsFreeRow locks u) c.args.low (Kept e q) u) u new))
+    (c.in-Ok.ensures.leaves.logs told sound).now (c.clean_older.ensures.cleans spared may told sound) database its (c.is_live.ensures ((area_in s).title e) (c.in-Ok.ensures.tells told sound) ∙ c.if-is_live.true)
 
 pub returns-then-is_live-clause-refused : goal.returns-then-is_live-clause-refused
 returns-then-is_live-clause-refused g c = λ told sound database its.
@@ -44,7 +44,7 @@ pub returns-else-is_live-clause-tries : goal.returns-else-is_live-clause-tries
 returns-else-is_live-clause-tries g c = c.a_part_reads.ensures.nothing _ g.O.Origin.first c.args.store.now c.title_at.new.store c.in-Ok.title c.in-Ok.ensures.leaves
 
 pub returns-else-is_live-clause-cleans : goal.returns-else-is_live-clause-cleans
-returns-else-is_live-clause-cleans g c = λ low spared may told sound database its.
+returns-else-is_live-clause-cleans g c = λ spared may told sound database its.
     let s = c.args.store.now.now in
     let isnt = c.is_live.ensures ((area_in s).title c.args.entry) (c.in-Ok.ensures.tells told sound) ∙ c.if-is_live.false in
     ((c.in-Ok.ensures.leaves.logs told sound).now, λ live. absurd (false≢true (sym isnt ∙ live)))

@@ -28,13 +28,13 @@ pub returns-in-Ok-false-clause-tries : goal.returns-in-Ok-false-clause-tries
 returns-in-Ok-false-clause-tries g c = c.a_part_reads.ensures.nothing _ g.O.Origin.first c.args.store.now c.is_open_older.new.store c.in-Ok-false.field-0 c.in-Ok-false.ensures.leaves
 
 pub returns-in-Ok-false-clause-cleans : goal.returns-in-Ok-false-clause-cleans
-returns-in-Ok-false-clause-cleans g c = λ low spared may told sound database its live.
+returns-in-Ok-false-clause-cleans g c = λ spared may told sound database its live.
     let s = c.args.store.now.now in
     let e = c.args.entry in
     let q = c.args.place in
     let locks = c.args.locks.now in
     let said = subst (OpenOlderSaid locks e q s) c.in-Ok-false.field-0-test (c.in-Ok-false.ensures.tells told sound (kept_taken s e q its)) in
-    ((c.in-Ok-false.ensures.leaves.logs told sound).now, λ lives free loose. said loose.used free)
+    ((c.in-Ok-false.ensures.leaves.logs told sound).now, λ lives free loose. said loose.0.used free)
 
 pub returns-in-Ok-true-clause-tries : goal.returns-in-Ok-true-clause-tries
 returns-in-Ok-true-clause-tries g c =
@@ -47,7 +47,7 @@ returns-in-Ok-true-clause-tries g c =
     (part_told first g.D.Disk _ mid new (done_step r) c.stepped.result c.stepped.result c.stepped.ensures refl (c.a_step_is_a_part.ensures.step first mid new r does.turns does.numbers does.left does.counted))
 
 pub returns-in-Ok-true-clause-cleans : goal.returns-in-Ok-true-clause-cleans
-returns-in-Ok-true-clause-cleans g c = λ low spared may told sound database its live.
+returns-in-Ok-true-clause-cleans g c = λ spared may told sound database its live.
     let s = c.args.store.now.now in
     let new = c.free_older_at.new.store.now in
     let e = c.args.entry in
@@ -56,9 +56,9 @@ returns-in-Ok-true-clause-cleans g c = λ low spared may told sound database its
     let r = c.free_older_at.result in
     let same = (c.in-Ok-true.ensures.leaves.logs told sound).now in
     let said = subst (OpenOlderSaid locks e q s) c.in-Ok-true.field-0-test (c.in-Ok-true.ensures.tells told sound (kept_taken s e q its)) in
-    let did : IfOk r (FreesAt low locks e q s new) = subst (λ (u : State). IsDatabaseState u → IsAmong q (older_places (area_in u) e) → is_live ((area_in u).title e) ≡ true → IfOk r (FreesAt low locks e q u new)) same
-    (c.free_older_at.ensures.cleans low told sound) database (older_place (area_in s) e q its.1) live in
-    subst (λ a. IfOk a (DidAt (heeding low locks spared may) (Kept e q) (HasNothingAt (IsFreeRow locks s) low (Kept e q) s) s new)) (sym c.stepped.ensures) (frees_older low locks spared e may q s new said r did)
+    let did : IfOk r (FreesAt c.args.low locks e q s new) = subst (λ (u : State). IsDatabaseState u → IsAmong q (older_places (area_in u) e) → is_live ((area_in u).title e) ≡ true → IfOk r (FreesAt c.args.low locks e q u new)) same
+    (c.free_older_at.ensures.cleans told sound) database (older_place (area_in s) e q its.1) live in
+    subst (λ a. IfOk a (DidAt (heeding c.args.low locks spared may) (Kept e q) (HasNothingAt (IsFreeRow locks s) c.args.low (Kept e q) s) s new)) (sym c.stepped.ensures) (frees_older c.args.low locks spared e may q s new said r did)
 
 pub returns-in-Ok-true-clause-refused : goal.returns-in-Ok-true-clause-refused
 returns-in-Ok-true-clause-refused g c = λ told sound database its live.

@@ -64,7 +64,7 @@ returns-in-Kept-clause-cleans g c = λ spared told sound database its.
     let h = heeding low locks spared lets in
     subst (λ (y : Position). IfOk c.clean_kept.result (DidAt h y (MayAll lets → HasNothingAt (IsFreeRow locks s) low y s) s c.clean_kept.new.store.now)) (sym c.in-Kept.is)
     (done_so h x (HasNothingAt (IsFreeRow locks s) low x s) (MayAll lets → HasNothingAt (IsFreeRow locks s) low x s) s c.clean_kept.new.store.now (λ none is. none) c.clean_kept.result
-    (c.clean_kept.ensures.cleans low spared lets told sound database (subst (λ (y : Position). IsPosition y (site_of s)) c.in-Kept.is its)))
+    (c.clean_kept.ensures.cleans spared lets told sound database (subst (λ (y : Position). IsPosition y (site_of s)) c.in-Kept.is its)))
 
 pub returns-in-Kept-clause-refused : goal.returns-in-Kept-clause-refused
 returns-in-Kept-clause-refused g c = λ told sound database its. c.clean_kept.ensures.refused told sound database (subst (λ (y : Position). IsPosition y (site_of c.args.store.now.now)) c.in-Kept.is its)
