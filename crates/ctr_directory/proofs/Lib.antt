@@ -1,0 +1,5 @@
+pub mod Leading
+pub mod Along
+pub mod Keeping
+pub mod Buckets
+pub mod Stepping

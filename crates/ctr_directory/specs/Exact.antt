@@ -1,0 +1,9 @@
+-- When all that is remembered is exact.
+use Rattle.std.specs.Prelude.{ℕ, List}
+use Rattle.std.specs.List.{All}
+use Rattle.ctr_directory.specs.declared.directory.Directory.{Directory}
+use Rattle.ctr_directory.specs.Chains.{IsKept}
+
+-- Each bucket is remembered as the pages are, where so many are counted.
+abbrev pub IsExact : ℕ → (ℕ → List ℕ) → Directory → Type 0
+IsExact counted pages d = All (IsKept counted pages) d.buckets.items

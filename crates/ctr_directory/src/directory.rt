@@ -1,0 +1,176 @@
+// What is remembered of all buckets.
+ghost use Rattle.std.specs.Prelude.{◌≡◌, ◌≤◌, ◌<◌, ◌+◌, ◌/◌, ℕ, ℤ, List, length, IfSome, vec_len};
+ghost use Rattle.ctr_page.specs.declared.table.TheConstants.{PAGE_SIZE};
+ghost use Rattle.ctr_page.specs.Places.{bucket_of as bucket_by};
+ghost use Rattle.ctr_directory.specs.Exact.{IsExact};
+ghost use Rattle.ctr_directory.specs.Chains.{IsKept, Knows, ChangesPage};
+
+use crate::remembered::Remembered;
+use ctr_page::{Place, bucket_of};
+use ctr_rec::PageNo;
+use std::alloc::Global;
+
+/// The most buckets of a database: 8 of each of 32 tables.
+const BUCKETS: usize = 256;
+
+/// How many keys are remembered at most, in all: they take some 64 MiB, of 32 bytes each at most twice over.
+pub const MOST_KEYS: usize = 1 << 20;
+
+/// What is remembered of the buckets of tables. It is exact where it says anything.
+#[derive(Drop)]
+pub struct Directory {
+    pub buckets: Vec<Remembered>,
+}
+
+// How a bucket is read on, so that all of its chain is remembered.
+#[derive(Clone, Copy, Debug, PartialEq, Eq)]
+pub enum Step {
+    /// By the page of the catalog that has the table's entry.
+    Catalog,
+    /// By this page of the chain.
+    Page(PageNo),
+    /// All of it is remembered, or there is no memory for it.
+    Done,
+}
+
+fn number_of(entry: u8, bucket: u8) -> usize
+    requires { (entry < 32) × (bucket < 8) }
+{
+    entry as usize * 8 + bucket as usize
+}
+
+impl Directory {
+    /// Nothing is remembered. Where memory is refused, nothing of some buckets ever is.
+    pub fn new(alloc: Global) -> Directory
+        ensures { (counted : ℕ) (pages : ℕ → List ℕ) → IsExact counted pages result }
+    {
+        let mut buckets = Vec::new(alloc);
+        for _ in 0..BUCKETS {
+            match buckets.push(Remembered::new(alloc)) {
+                Ok(()) => {}
+                Err(_) => return Directory { buckets },
+            }
+        }
+        Directory { buckets }
+    }
+
+    /// Forgets all.
+    pub fn forget(&mut self)
+        ensures { (counted : ℕ) (pages : ℕ → List ℕ) → IsExact counted pages self.new }
+    {
+        for i in 0..self.buckets.len() {
+            self.buckets[i].forget();
+        }
+    }
+
+    // How many keys are remembered.
+    fn len(&self) -> usize {
+        let mut keys: usize = 0;
+        for bucket in self.buckets.iter() {
+            keys = keys.saturating_add(bucket.len());
+        }
+        keys
+    }
+
+    // Forgets all where there is too much.
+    fn limit(&mut self)
+        ensures { (counted : ℕ) (pages : ℕ → List ℕ) → IsExact counted pages self.old → IsExact counted pages self.new }
+    {
+        if self.len() > MOST_KEYS {
+            self.forget();
+        }
+    }
+
+    fn change_all(&mut self, number: PageNo, counted: u32, before: &[u8], page: &[u8])
+        requires some { 4 ≤ counted }
+        requires whole { (length before.now ≡ PAGE_SIZE) × (length page.now ≡ PAGE_SIZE) }
+        ensures { (a b : ℕ → List ℕ) → ChangesPage number before.now page.now a b → IsExact counted a self.old → IsExact counted b self.new }
+    {
+        for i in 0..self.buckets.len() {
+            self.buckets[i].changed(number, counted, before, page);
+        }
+    }
+
+    /// A page has other bytes. A bucket of which what is remembered isn't exact any more is forgotten.
+    pub fn changed(&mut self, number: PageNo, counted: u32, before: &[u8], page: &[u8])
+        requires some { 4 ≤ counted }
+        requires whole { (length before.now ≡ PAGE_SIZE) × (length page.now ≡ PAGE_SIZE) }
+        ensures { (a b : ℕ → List ℕ) → ChangesPage number before.now page.now a b → IsExact counted a self.old → IsExact counted b self.new }
+    {
+        self.change_all(number, counted, before, page);
+        self.limit();
+    }
+
+    /// The place of a key of a table, or that no slot of its bucket has it; none where not all of the bucket's chain is remembered.
+    pub fn find(&self, entry: u8, key: i64) -> Option<Option<Place>>
+        requires { entry < 32 }
+        ensures { (counted : ℕ) (pages : ℕ → List ℕ) → IsExact counted pages self.now → IfSome result (Knows counted pages entry (bucket_by key) key) }
+    {
+        let bucket = bucket_of(key);
+        let number = number_of(entry, bucket);
+        if number >= self.buckets.len() {
+            return None;
+        }
+        let found = &self.buckets[number];
+        if found.entry != entry || found.bucket != bucket {
+            return None;
+        }
+        found.find(key)
+    }
+
+    /// How a bucket is read on.
+    pub fn step(&self, entry: u8, bucket: u8) -> Step
+        requires { (entry < 32) × (bucket < 8) }
+    {
+        let number = number_of(entry, bucket);
+        if number >= self.buckets.len() {
+            return Step::Done;
+        }
+        let found = &self.buckets[number];
+        if !found.known || found.entry != entry || found.bucket != bucket {
+            return Step::Catalog;
+        }
+        match found.wanted() {
+            Some(page) => Step::Page(page),
+            None => Step::Done,
+        }
+    }
+
+    /// Begins to remember a bucket, by the page of the catalog that has its table's entry.
+    pub fn begin(&mut self, entry: u8, bucket: u8, counted: u32, page: &[u8])
+        requires some { 4 ≤ counted }
+        requires there { (entry < 32) × (bucket < 8) }
+        requires whole { length page.now ≡ PAGE_SIZE }
+        ensures { (pages : ℕ → List ℕ) → pages (1 + entry / 16) ≡ page.now → IsExact counted pages self.old → IsExact counted pages self.new }
+    {
+        let number = number_of(entry, bucket);
+        if number >= self.buckets.len() {
+            return;
+        }
+        self.buckets[number].begin(entry, bucket, counted, page);
+    }
+
+    fn put(&mut self, at: usize, number: PageNo, counted: u32, page: &[u8])
+        requires some { 4 ≤ counted }
+        requires there { at < vec_len self.old.buckets }
+        requires whole { length page.now ≡ PAGE_SIZE }
+        ensures { (pages : ℕ → List ℕ) → pages number ≡ page.now → IsExact counted pages self.old → IsExact counted pages self.new }
+    {
+        self.buckets[at].add(number, counted, page);
+    }
+
+    /// A page of a bucket's chain that was wanted is read.
+    pub fn add(&mut self, entry: u8, bucket: u8, number: PageNo, counted: u32, page: &[u8])
+        requires some { 4 ≤ counted }
+        requires there { (entry < 32) × (bucket < 8) }
+        requires whole { length page.now ≡ PAGE_SIZE }
+        ensures { (pages : ℕ → List ℕ) → pages number ≡ page.now → IsExact counted pages self.old → IsExact counted pages self.new }
+    {
+        let at = number_of(entry, bucket);
+        if at >= self.buckets.len() {
+            return;
+        }
+        self.put(at, number, counted, page);
+        self.limit();
+    }
+}
