@@ -22,17 +22,6 @@ pub struct Directory {
     pub buckets: Vec<Remembered>,
 }
 
-// How a bucket is read on, so that all of its chain is remembered.
-#[derive(Clone, Copy, Debug, PartialEq, Eq)]
-pub enum Step {
-    /// By the page of the catalog that has the table's entry.
-    Catalog,
-    /// By this page of the chain.
-    Page(PageNo),
-    /// All of it is remembered, or there is no memory for it.
-    Done,
-}
-
 fn number_of(entry: u8, bucket: u8) -> usize
     requires { (entry < 32) × (bucket < 8) }
 {
@@ -118,26 +107,36 @@ impl Directory {
         found.find(key)
     }
 
-    /// How a bucket is read on.
-    pub fn step(&self, entry: u8, bucket: u8) -> Step
+    /// The page that is to be read next, so that all of a bucket's chain is remembered: the one of the catalog that has the table's
+    /// entry where nothing is yet; none where all is, or where there is no memory for it.
+    pub fn wanted(&self, entry: u8, bucket: u8) -> Option<PageNo>
         requires { (entry < 32) × (bucket < 8) }
     {
         let number = number_of(entry, bucket);
         if number >= self.buckets.len() {
-            return Step::Done;
+            return None;
         }
         let found = &self.buckets[number];
         if !found.known || found.entry != entry || found.bucket != bucket {
-            return Step::Catalog;
+            return Some(1 + (entry / 16) as PageNo);
         }
-        match found.wanted() {
-            Some(page) => Step::Page(page),
-            None => Step::Done,
-        }
+        found.wanted()
     }
 
-    /// Begins to remember a bucket, by the page of the catalog that has its table's entry.
-    pub fn begin(&mut self, entry: u8, bucket: u8, counted: u32, page: &[u8])
+    // Whether something is remembered of a bucket.
+    fn knows(&self, entry: u8, bucket: u8) -> bool
+        requires { (entry < 32) × (bucket < 8) }
+    {
+        let number = number_of(entry, bucket);
+        if number >= self.buckets.len() {
+            return false;
+        }
+        let found = &self.buckets[number];
+        found.known && found.entry == entry && found.bucket == bucket
+    }
+
+    // Begins to remember a bucket, by the page of the catalog that has its table's entry.
+    fn begin(&mut self, entry: u8, bucket: u8, counted: u32, page: &[u8])
         requires some { 4 ≤ counted }
         requires there { (entry < 32) × (bucket < 8) }
         requires whole { length page.now ≡ PAGE_SIZE }
@@ -159,8 +158,8 @@ impl Directory {
         self.buckets[at].add(number, counted, page);
     }
 
-    /// A page of a bucket's chain that was wanted is read.
-    pub fn add(&mut self, entry: u8, bucket: u8, number: PageNo, counted: u32, page: &[u8])
+    // A page of a bucket's chain is read.
+    fn add(&mut self, entry: u8, bucket: u8, number: PageNo, counted: u32, page: &[u8])
         requires some { 4 ≤ counted }
         requires there { (entry < 32) × (bucket < 8) }
         requires whole { length page.now ≡ PAGE_SIZE }
@@ -172,5 +171,23 @@ impl Directory {
         }
         self.put(at, number, counted, page);
         self.limit();
+    }
+
+    /// The page that was wanted is read. One that isn't counted is passed over.
+    pub fn read(&mut self, entry: u8, bucket: u8, number: PageNo, counted: u32, page: &[u8])
+        requires some { 4 ≤ counted }
+        requires there { (entry < 32) × (bucket < 8) }
+        requires whole { length page.now ≡ PAGE_SIZE }
+        ensures { (pages : ℕ → List ℕ) → (number < counted → pages number ≡ page.now) → IsExact counted pages self.old → IsExact counted pages self.new }
+    {
+        if number >= counted {
+            return;
+        }
+        if self.knows(entry, bucket) {
+            return self.add(entry, bucket, number, counted, page);
+        }
+        if number == 1 + (entry / 16) as PageNo {
+            self.begin(entry, bucket, counted, page);
+        }
     }
 }

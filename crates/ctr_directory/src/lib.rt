@@ -6,6 +6,6 @@ mod directory;
 mod remembered;
 mod slots;
 
-pub use directory::{Directory, MOST_KEYS, Step};
+pub use directory::{Directory, MOST_KEYS};
 pub use remembered::Remembered;
 pub use slots::{Unkept, renew};
