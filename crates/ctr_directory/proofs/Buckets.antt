@@ -1,8 +1,8 @@
 -- What is remembered of a bucket, as one page more is, or one has other bytes.
-use Rattle.std.proofs.Common.{◌≡◌, ◌≢◌, ℕ, ◌+◌, ◌/◌, ◌≤◌, ◌<◌, ℤ, Bool, true, false, cond, List, [], ◌∷◌, ◌++◌, length, length-append, Option, None, Some, Ok, refl, sym, ◌∙◌, ap, subst, arith}
+use Rattle.std.proofs.Common.{◌≡◌, ◌≢◌, ℕ, ◌+◌, ◌/◌, ◌≤◌, ◌<◌, ℤ, true, false, cond, List, [], ◌∷◌, ◌++◌, length, length-append, Option, None, Some, refl, sym, ◌∙◌, ap, subst, arith}
 use Rattle.std.specs.Prelude.{◌==◌, ◌&&◌, nat_eq, nat_lt}
 use Rattle.std.proofs.lemmas.Bool.{eqb-true, eqb-false, ltb-true}
-use Rattle.indexmap.specs.IndexSet.{IndexSet, contains, index_set_len}
+use Rattle.indexmap.specs.IndexSet.{contains, index_set_len}
 use Rattle.indexmap.specs.IndexMap.{get}
 use Rattle.std.specs.Ordering.{int_eq}
 use Rattle.ctr_page.specs.declared.rows.Place.{Place}
@@ -11,7 +11,7 @@ use Rattle.ctr_directory.specs.declared.remembered.Remembered.{Remembered}
 use Rattle.ctr_directory.specs.Keys.{key_on, key_before, slots_of, LeadsTo, over_slots}
 use Rattle.ctr_directory.specs.Chains.{PagePasses, RunsAlong, BucketSaid, kinds_kept, checks_of, keys_in, IsBucket, ChangesPage, has_page, TellsKey, IsTold, Knows}
 use Rattle.ctr_directory.proofs.Leading.{by_test, leads_same}
-use Rattle.ctr_directory.proofs.Along.{has_on, each_passes, runs_moved, runs_on}
+use Rattle.ctr_directory.proofs.Along.{has_on, runs_moved, runs_on}
 use Rattle.ctr_directory.proofs.Keeping.{its_key, no_key, page_changed, page_elsewhere}
 
 module _ (counted : ℕ) (pages : ℕ → List ℕ) (s t : Remembered) (number : ℕ) (some : number ≢ 0) (old : IsBucket counted pages s)

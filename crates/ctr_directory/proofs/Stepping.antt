@@ -1,8 +1,7 @@
 -- A list whose elements get another property in turn.
-use Rattle.std.proofs.Common.{◌≡◌, ◌≢◌, ℕ, ◌+◌, ◌<◌, ◌≤◌, List, length, get_or, set, sym, subst, arith}
-use Rattle.std.specs.List.{All, AllWithin}
+use Rattle.std.proofs.Common.{◌≢◌, ℕ, ◌+◌, List, set, sym, subst, arith}
+use Rattle.std.specs.List.{AllWithin}
 use Rattle.std.proofs.lemmas.List.{get_or-set_other}
-use Rattle.std.proofs.lemmas.List.Elements.{AllWithin-more_set}
 
 -- those behind one that is set
 pub rest_behind : {X : Type 0} (P : X → Type 0) (xs : List X) (i count : ℕ) (v : X) → AllWithin P xs i count → AllWithin P (set xs i v) (i + 1) count

@@ -1,10 +1,10 @@
-use Rattle.std.proofs.Common.{◌≡◌, ◌<◌, ◌+◌, ◌≤◌, ℕ, ℤ, List, Option, Ok, ⊎_elim, arith, sym, ◌∙◌, subst}
+use Rattle.std.proofs.Common.{◌≡◌, ◌<◌, ◌+◌, ℕ, List, Ok, ⊎_elim, arith, ◌∙◌, subst}
 use Rattle.std.proofs.lemmas.Bool.{cases_lt}
 use Rattle.ctr_rec.specs.types_Kind.{Kind}
 use Rattle.ctr_page.specs.declared.rows.Place.{Place}
 use Rattle.ctr_page.specs.Columns.{slot_start}
 use Rattle.ctr_page.specs.Damage.{slot_check}
-use Rattle.ctr_directory.specs.Keys.{key_on, key_before, slots_of, LeadsTo, with_key, over_slots, SlotsPass}
+use Rattle.ctr_directory.specs.Keys.{key_on, slots_of, LeadsTo, with_key, over_slots, SlotsPass}
 use Rattle.ctr_directory.proofs.Leading.{leads_same, none_yet, next_one, one_slot_more}
 use Rattle.ctr_directory.proofs.slots.renew.Goals as goal
 

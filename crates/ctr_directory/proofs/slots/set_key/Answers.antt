@@ -1,6 +1,6 @@
-use Rattle.std.proofs.Common.{sym, ap, subst, Option, None, ◌∙◌}
+use Rattle.std.proofs.Common.{None, ◌∙◌}
 use Rattle.std.proofs.lemmas.Result.{on_ok_weaker}
-use Rattle.ctr_directory.specs.Keys.{LeadsTo, with_key}
+use Rattle.ctr_directory.specs.Keys.{with_key}
 use Rattle.ctr_directory.proofs.Leading.{leads_same, unchanged, twice, got}
 use Rattle.ctr_directory.proofs.slots.set_key.Goals as goal
 

@@ -1,5 +1,5 @@
-use Rattle.std.proofs.Common.{◌≡◌, ℕ, List, None, true, false, sym, ◌∙◌, ap, subst}
-use Rattle.std.specs.Prelude.{nat_eq, not}
+use Rattle.std.proofs.Common.{◌≡◌, false, sym, ◌∙◌, subst}
+use Rattle.std.specs.Prelude.{nat_eq}
 use Rattle.indexmap.specs.IndexSet.{contains}
 use Rattle.ctr_directory.specs.Keys.{key_on, slots_of, LeadsTo, over_slots}
 use Rattle.ctr_directory.specs.Chains.{kinds_kept, keys_in}
