@@ -72,6 +72,22 @@ fn run_lines<D: Disk, B: Origin + Opening>(alloc: Global, world: &mut World<D, B
     }
 }
 
+/// So many lines of session 1.
+pub(crate) fn run_first<D: Disk, B: Origin + Opening>(
+    alloc: Global,
+    world: &mut World<D, B>,
+    lines: u8,
+)
+    ensures { lines ≡ 0 → world.new ≡ world.old }
+{
+    if lines == 0 {
+        return;
+    }
+    for _ in 0..lines {
+        run_line(alloc, world, 1);
+    }
+}
+
 // A turn of each of these actors.
 fn run_actors<D: Disk, B: Origin + Opening>(
     alloc: Global,

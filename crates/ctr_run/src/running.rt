@@ -1,25 +1,36 @@
 // Runs a script over the database of a disk.
-ghost use Rattle.std.specs.Prelude.{◌≡◌, ◌≤◌, map, IsTrue, IfOk};
+ghost use Rattle.std.specs.Prelude.{◌≡◌, ◌≤◌, Bool, List, length, map, IsTrue, IfErr, IfOk};
+ghost use Rattle.std.specs.List.{AllByRecursion};
+ghost use Rattle.ctr_types.specs.declared.statement.Line.{Line as HeldLine};
 ghost use Rattle.ctr_disk.specs.Crash.{Within};
 ghost use Rattle.ctr_log.specs.declared.opening.OpenError.{OpenError as HeldError};
 ghost use Rattle.ctr_model.specs.Tape.{IsSerial};
 ghost use Rattle.ctr_redo.specs.States.{State};
 ghost use Rattle.ctr_record_effects.specs.Standing.{StandsForDatabase};
-ghost use Rattle.ctr_world.specs.Opened.{IsOpenedOn, CanRun};
+ghost use Rattle.ctr_world.specs.Ended.{IsUnbegunWorld, PassesOpening};
+ghost use Rattle.ctr_world.specs.Opened.{IsOpenedOn, IsRunLine, CanRun};
+ghost use Rattle.ctr_world.specs.Turns.{FinishesBy};
 ghost use Rattle.ctr_run.specs.declared.lines.Schedule.TheVariants.{Serial};
 ghost use Rattle.ctr_run.specs.declared.ran.RunEnd.TheVariants.{Finished, Unopened};
+ghost use Rattle.ctr_run.specs.Beside.{CameByTurns};
 ghost use Rattle.ctr_run.specs.Counting.{CountsAsked};
-ghost use Rattle.ctr_run.specs.Running.{EndsAsAsked, EndsFor, RunsInOrder, RunsNone, RunsOver, TellsNoDamage};
+ghost use Rattle.ctr_run.specs.Lines.{RanOrStopped};
+ghost use Rattle.ctr_run.specs.Promises.{IsRunOf, IsUnopened};
+ghost use Rattle.ctr_run.specs.Running.{EndsAsAsked, EndsFor, RunsInOrder, RunsNone, RunsOver};
 
-use crate::lines::{Schedule, run_turns};
+use crate::beside::{Workers, run_workers};
+use crate::lines::{Schedule, run_first, run_turns};
 use crate::ran::{Left, Ran, ended};
 use ctr_base::Origin;
 use ctr_disk::Disk;
 use ctr_log::OpenError;
 use ctr_types::{OutOfMemory, Script};
+use ctr_workers::Gate;
 use ctr_world::{Opening, World};
 use std::alloc::Global;
 use std::marker::Brand;
+use std::sync::Wait;
+use std::thread::Threads;
 
 // The sessions of a script's lines, in order.
 fn sessions_of(alloc: Global, script: &Script) -> Result<Vec<u8>, OutOfMemory>
@@ -32,7 +43,59 @@ fn sessions_of(alloc: Global, script: &Script) -> Result<Vec<u8>, OutOfMemory>
     Ok(sessions)
 }
 
-// Over the disk and the script that a type names.
+// The sessions of a script's lines: bit s - 1 is set for session s.
+fn named_sessions(script: &Script) -> u8 {
+    let mut sessions = 0;
+    for line in script.lines.as_slice() {
+        if matches!(line.session, 1..=8) {
+            sessions |= 1 << (line.session - 1);
+        }
+    }
+    sessions
+}
+
+// The World of a script over the disk that a type names; or a run of nothing.
+fn opened<D: Disk, B: Origin + Opening>(
+    alloc: Global,
+    disk: D,
+    frames: usize,
+    script: Script,
+) -> Result<World<D, B>, Ran<D>>
+    requires named { IsOpenedOn B.Opening B.first D.Disk disk script.lines }
+    requires frames { (8 ≤ frames) × (frames ≤ 4096) }
+    requires runs { CanRun script.lines }
+    ensures begins { IfOk result (IsUnbegunWorld script.lines) }
+    ensures passes { IsTrue D.tells → IfOk result (λ w. PassesOpening B.first) }
+    ensures refused { IfErr result (λ r. (totals : Bool) → IsRunOf D.Disk disk script.lines totals r) }
+    ensures none { IfErr result IsUnopened }
+{
+    match World::<D, B>::open(alloc, disk, frames, script) {
+        Ok(world) => Ok(world),
+        Err((error, disk)) => Err(Ran::none(alloc, error, disk)),
+    }
+}
+
+// A World is finished, whatever turns it had.
+fn finished<D: Disk, B: Origin + Opening>(alloc: Global, world: World<D, B>, totals: bool) -> Ran<D>
+    ensures runs { (disk : D) (lines : List HeldLine) → IsOpenedOn B.Opening B.first D.Disk disk lines → Within B.before (D.images disk)
+        → (IsTrue D.tells → PassesOpening B.first) → IsRunOf D.Disk disk lines totals result }
+    ensures serial { RanOrStopped B.start B.lines (length B.lines) world → AllByRecursion IsRunLine B.lines → IsSerial B.lines result.left.tape.entries }
+    ensures turns { FinishesBy D.Disk world result.left.tape.entries }
+{
+    world.stands_in_order();
+    let finished = world.finish(alloc, totals);
+    Ran {
+        end: ended(finished.stop),
+        left: Left {
+            tape: finished.tape,
+            undone: finished.undone,
+            totals: finished.totals,
+            disk: finished.disk,
+        },
+    }
+}
+
+// Over the disk and the script that a type names, in the order of a schedule.
 fn run_opened<D: Disk, B: Origin + Opening>(
     alloc: Global,
     disk: D,
@@ -45,33 +108,49 @@ fn run_opened<D: Disk, B: Origin + Opening>(
     requires before { Within B.before (D.images disk) }
     requires frames { (8 ≤ frames) × (frames ≤ 4096) }
     requires runs { CanRun script.lines }
-    ensures ran { (s : State) → IsTrue D.tells → StandsForDatabase (D.reads disk) s → RunsOver D.Disk disk s script.lines (result.end ≡ Finished) result.left }
-    ensures undamaged { (s : State) → IsTrue D.tells → StandsForDatabase (D.reads disk) s → TellsNoDamage result.end }
-    ensures order { RunsInOrder D.Disk disk script.lines (result.end ≡ Finished) result.left }
+    ensures runs { IsRunOf D.Disk disk script.lines totals result }
     ensures serial { schedule.entry ≡ Serial → IsSerial script.lines result.left.tape.entries }
-    ensures none { (e : HeldError) → result.end ≡ Unopened e → RunsNone D.Disk disk result.left }
-    ensures ends { EndsFor D.Disk disk result.left.disk result.end }
-    ensures counts { CountsAsked D.Disk disk script.lines totals result }
 {
     let Ok(sessions) = sessions_of(alloc, &script) else {
         return Ran::none(alloc, OpenError::OutOfMemory, disk);
     };
-    let mut world = match World::<D, B>::open(alloc, disk, frames, script) {
+    let mut world = match opened::<D, B>(alloc, disk, frames, script) {
         Ok(world) => world,
-        Err((error, disk)) => return Ran::none(alloc, error, disk),
+        Err(ran) => return ran,
     };
     run_turns(alloc, &mut world, schedule, sessions.as_slice());
-    world.stands_in_order();
-    let finished = world.finish(alloc, totals);
-    Ran {
-        end: ended(finished.stop),
-        left: Left {
-            tape: finished.tape,
-            undone: finished.undone,
-            totals: finished.totals,
-            disk: finished.disk,
-        },
-    }
+    finished(alloc, world, totals)
+}
+
+// Over the disk and the script that a type names, on threads.
+fn run_opened_on_threads<
+    R: Threads + Wait + Sync,
+    D: Disk + Send,
+    B: Origin + Opening + Send,
+    G: Gate + Sync,
+>(
+    workers: Workers<'_, R, G>,
+    alloc: Global,
+    disk: D,
+    frames: usize,
+    script: Script,
+    totals: bool,
+) -> Ran<D>
+    requires named { IsOpenedOn B.Opening B.first D.Disk disk script.lines }
+    requires before { Within B.before (D.images disk) }
+    requires frames { (8 ≤ frames) × (frames ≤ 4096) }
+    requires runs { CanRun script.lines }
+    ensures runs { IsRunOf D.Disk disk script.lines totals result }
+    ensures turns { workers.entry.first ≡ 0 → ((e : HeldError) → result.end ≡ Unopened e → ⊥) → ∥ CameByTurns D.Disk script.lines result.left.tape.entries ∥₁ }
+{
+    let sessions = named_sessions(&script);
+    let mut world = match opened::<D, B>(alloc, disk, frames, script) {
+        Ok(world) => world,
+        Err(ran) => return ran,
+    };
+    run_first(alloc, &mut world, workers.first);
+    let world = run_workers(workers, alloc, world, sessions);
+    finished(alloc, world, totals)
 }
 
 /// Runs a script over the database of a disk, with so many frames for its pages, 8 to 4,096, and makes all durable. It goes on until all statements are
@@ -104,4 +183,24 @@ pub fn run<D: Disk>(
     ensures complete { (s : State) → IsTrue D.tells → StandsForDatabase (D.reads disk) s → EndsAsAsked D.Disk disk result.left.disk result.end }
 {
     run_opened::<D, Brand>(alloc, disk, frames, script, schedule, totals)
+}
+
+/// Runs a script as `run` does, but each session that it names, the flusher, the cleaner and undo have a thread of their own, and take their turns as the
+/// World comes to them. It promises what `run` does, but for the order of the statements of different sessions.
+pub fn run_on_threads<R: Threads + Wait + Sync, D: Disk + Send, G: Gate + Sync>(
+    workers: Workers<'_, R, G>,
+    alloc: Global,
+    disk: D,
+    frames: usize,
+    script: Script,
+    totals: bool,
+) -> Ran<D>
+    requires frames { (8 ≤ frames) × (frames ≤ 4096) }
+    requires runs { CanRun script.lines }
+    ensures runs { IsRunOf D.Disk disk script.lines totals result }
+    // Where no lines come first, and the database was opened, the tape is that of the World that was, led on by steps of actors, one at a time, and then
+    // finished.
+    ensures turns { workers.entry.first ≡ 0 → ((e : HeldError) → result.end ≡ Unopened e → ⊥) → ∥ CameByTurns D.Disk script.lines result.left.tape.entries ∥₁ }
+{
+    run_opened_on_threads::<R, D, Brand, G>(workers, alloc, disk, frames, script, totals)
 }

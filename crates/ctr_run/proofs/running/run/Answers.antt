@@ -1,5 +1,4 @@
 use Rattle.std.proofs.Common.{refl}
-use Rattle.ctr_run.proofs.Ends.{as_asked}
 use Rattle.ctr_run.proofs.running.run.Goals as goal
 
 pub run_opened-requires-clause-named : goal.run_opened-requires-clause-named
@@ -8,5 +7,20 @@ run_opened-requires-clause-named g c = record { image = refl; before = λ i is. 
 pub run_opened-requires-clause-before : goal.run_opened-requires-clause-before
 run_opened-requires-clause-before g c = λ i is. is
 
+pub returns-clause-ran : goal.returns-clause-ran
+returns-clause-ran g c = c.run_opened.ensures.runs.ran
+
+pub returns-clause-order : goal.returns-clause-order
+returns-clause-order g c = c.run_opened.ensures.runs.order
+
+pub returns-clause-none : goal.returns-clause-none
+returns-clause-none g c = c.run_opened.ensures.runs.none
+
+pub returns-clause-ends : goal.returns-clause-ends
+returns-clause-ends g c = c.run_opened.ensures.runs.ends
+
+pub returns-clause-counts : goal.returns-clause-counts
+returns-clause-counts g c = c.run_opened.ensures.runs.counts
+
 pub returns-clause-complete : goal.returns-clause-complete
-returns-clause-complete g c = λ s told stands. as_asked g.D.Disk c.args.disk c.run_opened.result.left.disk s c.run_opened.result.end told stands (c.run_opened.ensures.undamaged s told stands) c.run_opened.ensures.ends
+returns-clause-complete g c = c.run_opened.ensures.runs.complete

@@ -1,0 +1,61 @@
+// The turns of a World on threads, under one lock.
+ghost use Rattle.ctr_workers.specs.Leads.{Leads};
+ghost use Rattle.ctr_workers.specs.Workers.{IsActor};
+ghost use Rattle.ctr_world.specs.Turns.{EndsTurn};
+ghost use Rattle.ctr_run.specs.Beside.{StepsTo};
+
+use ctr_base::Origin;
+use ctr_disk::Disk;
+use ctr_types::{Actor, Turn};
+use ctr_workers::{Gate, Turns, run_turns};
+use ctr_world::{Opening, World};
+use std::alloc::Global;
+use std::sync::Wait;
+use std::thread::Threads;
+
+/// How a run has threads.
+#[derive(Clone, Copy)]
+pub struct Workers<'a, R, G> {
+    /// What they are made by.
+    pub rt: &'a R,
+    /// What each worker passes before each of its turns.
+    pub gate: &'a G,
+    /// So many lines of session 1 are run before, one after another, as in the serial order.
+    pub first: u8,
+}
+
+// A World under the lock: each turn is one step of it.
+#[derive(Drop)]
+struct Locked<D: Disk, B: Origin + Opening> {
+    world: World<D, B>,
+    alloc: Global,
+}
+
+impl<D: Disk, B: Origin + Opening> Turns for Locked<D, B> {
+    ghost takes = { λ _. Unit {0} };
+
+    ghost took = { λ actor answer old new. EndsTurn D.Disk answer actor old.world new.world };
+
+    fn turn(&mut self, actor: Actor) -> Turn {
+        self.world.step(self.alloc, actor)
+    }
+
+    fn done(&self) -> bool {
+        self.world.done()
+    }
+}
+
+/// The turns of these sessions, bit s - 1 for session s, of the flusher, the cleaner and undo, as threads come to them. Each is one step, and nothing comes
+/// between.
+pub(crate) fn run_workers<
+    R: Threads + Wait + Sync,
+    D: Disk + Send,
+    B: Origin + Opening + Send,
+    G: Gate + Sync,
+>(workers: Workers<'_, R, G>, alloc: Global, world: World<D, B>, sessions: u8) -> World<D, B>
+    ensures { ∥ Leads IsActor (StepsTo D.Disk) world result ∥₁ }
+{
+    let locked = run_turns(workers.rt, Locked { world, alloc }, sessions, workers.gate);
+    let Locked { world, alloc: _ } = locked;
+    world
+}
