@@ -1,5 +1,5 @@
 -- A run keeps what it promises: one that wasn't opened, and one whose World has ended.
-use Rattle.std.proofs.Common.{◌≡◌, ◌⊎◌, ◌≤◌, Bool, List, [], Some, refl, sym, subst}
+use Rattle.std.proofs.Common.{◌≡◌, ◌⊎◌, ◌≤◌, Bool, List, [], Some, sym, subst}
 use Rattle.std.specs.Prelude.{IsTrue, ◌^◌, ◌-◌, ℕ}
 use Rattle.ctr_types.specs.declared.statement.Line.{Line}
 use Rattle.ctr_disk.specs.Crash.{Within}

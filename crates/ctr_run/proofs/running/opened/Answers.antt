@@ -1,4 +1,4 @@
-use Rattle.std.proofs.Common.{◌≡◌, ◌⊎◌, ◌≤◌, subst, sym}
+use Rattle.std.proofs.Common.{◌⊎◌, subst, sym}
 use Rattle.ctr_disk.specs.Device.{LeavesOnly}
 use Rattle.ctr_record_effects.specs.Standing.{StandsForDatabase}
 use Rattle.ctr_world.specs.Ended.{RefusesWith, RefusesWorld}

@@ -20,6 +20,9 @@ returns-in_default-clause-serial g c = λ is. serial_front c.args.script.lines 0
 
 -- ---- the database wasn't opened
 
+pub returns-in-Err-clause-runs : goal.returns-in-Err-clause-runs
+returns-in-Err-clause-runs g c = c.in-Err.ensures.refused c.args.totals
+
 pub returns-in-Err-clause-serial : goal.returns-in-Err-clause-serial
 returns-in-Err-clause-serial g c = λ is. serial_front c.args.script.lines 0 c.in-Err.ran.left.tape.entries (ap statements_on c.in-Err.ensures.none.tape)
 

@@ -1,9 +1,12 @@
-use Rattle.std.proofs.Common.{◌≡◌, subst}
+use Rattle.std.proofs.Common.{subst}
 use Rattle.std.proofs.Math.Logic.{∥∥₁_map}
 use Rattle.ctr_workers.specs.Leads.{Leads}
 use Rattle.ctr_workers.specs.Workers.{IsActor}
 use Rattle.ctr_run.specs.Beside.{StepsTo}
 use Rattle.ctr_run.proofs.running.run_opened_on_threads.Goals as goal
+
+pub returns-in-Err-clause-runs : goal.returns-in-Err-clause-runs
+returns-in-Err-clause-runs g c = c.in-Err.ensures.refused c.args.totals
 
 pub returns-in-Err-clause-turns : goal.returns-in-Err-clause-turns
 returns-in-Err-clause-turns g c = λ first ran. absurd (ran c.in-Err.ensures.none.error c.in-Err.ensures.none.end)
