@@ -8,7 +8,7 @@ ghost use Rattle.ctr_top.specs.Endings.{status_of};
 
 use ctr_file::FileDisk;
 use ctr_io::{ReadSource, WriteSink};
-use ctr_top::Ended;
+use ctr_top::{Ended, OpenGate};
 use std::alloc::{AllocError, Global};
 use std::env;
 use std::io::{self, ErrorKind};
@@ -65,7 +65,15 @@ fn main(rt: HostRuntime) -> ExitCode {
     let disk = FileDisk::new(rt, rt.alloc(), folder);
     let mut source = ReadSource::new(rt.stdin());
     let mut sink = WriteSink::new(io::writer(&rt));
-    let ended = ctr_top::run_serial(rt.alloc(), &words, disk, &mut source, &mut sink);
+    let ended = ctr_top::run(
+        &rt,
+        rt.alloc(),
+        &words,
+        disk,
+        &mut source,
+        &mut sink,
+        &OpenGate,
+    );
     let code = exit_code(&ended);
     // The process ends here, and its memory with it: a long tape isn't freed entry by entry.
     forget(ended.left.tape);

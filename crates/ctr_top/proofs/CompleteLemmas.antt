@@ -1,5 +1,5 @@
 -- Where nothing fails a script runs to its end.
-use Rattle.std.proofs.Common.{◌≡◌, ◌≢◌, inl, inr, ℕ, List, refl, arith}
+use Rattle.std.proofs.Common.{◌≡◌, ◌≢◌, ◌∙◌, inl, inr, ℕ, List, refl, sym, ap, subst, arith}
 use Rattle.std.specs.Prelude.{IsTrue}
 use Rattle.ctr_types.specs.declared.statement.Line.{Line}
 use Rattle.ctr_types.specs.Faults.{CountsFault}
@@ -20,8 +20,9 @@ use Rattle.ctr_database.specs.ctr_run.Running.{EndsAsAsked, RunsNone}
 use Rattle.ctr_top.specs.declared.outcome.Outcome.{Outcome}
 use Rattle.ctr_top.specs.declared.ending.Ending.{Ending}
 use Rattle.ctr_top.specs.declared.ending.Ending.TheVariants as ending
+use Rattle.ctr_top.specs.declared.commands.Ended.{Ended}
 use Rattle.ctr_top.specs.Endings.{ran_as, work}
-use Rattle.ctr_top.specs.Top.{EndsUnfailed, RunCauses, SourceWhy, IsScriptRead}
+use Rattle.ctr_top.specs.Top.{EndsUnfailed, work_of, RunCauses, SourceWhy, IsScriptRead}
 
 abbrev pub NoScriptIsRefused : Type 0
 NoScriptIsRefused = (bytes : List ℕ) (ls : List Line) (line at : ℕ) → IsWritten SpellsLine bytes ls → IsRefusedIn SpellsLine bytes line at → ⊥
@@ -77,3 +78,9 @@ module _ {D S : Type 0} (law : NoScriptIsRefused) (g : Ghosts D) (old : D) (s : 
   complete_of =
       let by = h.by_disk (is_read o.ending h.by_source) in
       by_end g old o passes no_disk by.end by.is by.none (by.asked base told stands)
+
+  -- where its text was put too
+  pub complete_put : (e : Ended D) → work_of e ≡ o → e.ending ≢ ending.WriteFault → EndsUnfailed e.ending e.left
+  complete_put e outcome not =
+      let same : e.ending ≡ o.ending = sym (work_is e.ending not) ∙ ap (λ w. w.ending) outcome in
+      subst (λ w. EndsUnfailed w e.left) (sym same) (subst (λ l. EndsUnfailed o.ending l) (sym (ap (λ w. w.left) outcome)) complete_of)

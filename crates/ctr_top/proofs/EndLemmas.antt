@@ -1,5 +1,5 @@
 -- How a command ends: what is printed, and what its words have to do with it.
-use Rattle.std.proofs.Common.{◌≡◌, ◌≢◌, ◌⊎◌, ◌∙◌, inl, inr, ⊎_elim, List, [], Option, Some, refl, sym, ap, subst}
+use Rattle.std.proofs.Common.{◌≡◌, ◌≢◌, ◌⊎◌, ◌∙◌, inl, inr, ⊎_elim, Bool, List, [], Option, Some, refl, sym, ap, subst}
 use Rattle.std.specs.Prelude.{◌++◌, ℕ}
 use Rattle.ctr_types.specs.declared.tape.Entry.{Entry}
 use Rattle.ctr_io.specs.declared.edges.Source.{Ghosts as Source}
@@ -16,7 +16,7 @@ use Rattle.ctr_words.specs.Words.{AsksForNothing}
 use Rattle.ctr_top.specs.declared.ending.Ending.{Ending}
 use Rattle.ctr_top.specs.declared.ending.Ending.TheVariants as ending
 use Rattle.ctr_top.specs.declared.outcome.Outcome.{Outcome}
-use Rattle.ctr_top.specs.declared.run.Ended.{Ended}
+use Rattle.ctr_top.specs.declared.commands.Ended.{Ended}
 use Rattle.ctr_top.specs.Endings.{status_of, cause_of, asked_as, work}
 use Rattle.ctr_top.specs.Top.{IsUnrun, MindsWords, PutsText, printed_text, report_of, shown_tape, work_of}
 use Rattle.ctr_top.proofs.CompleteLemmas.{work_is}
@@ -88,7 +88,7 @@ module _ {D S : Type 0} (s : Source S) (asked : Option Subcommand) (old : D) (e 
   }
 
   -- a command that was
-  pub minds_some : (it : Subcommand) → asked ≡ Some it → (e.ending ≡ ending.Usage → ⊥) → (source new : S) → (((frames : ℕ) → asked ≡ Some (subcommand.Run frames) → ⊥) → new ≡ source) → MindsWords s asked old e source new
+  pub minds_some : (it : Subcommand) → asked ≡ Some it → (e.ending ≡ ending.Usage → ⊥) → (source new : S) → (((frames : ℕ) (threads : Bool) → asked ≡ Some (subcommand.Run frames threads) → ⊥) → new ≡ source) → MindsWords s asked old e source new
   minds_some it is begun source new reads = record {
     usage = λ usage. absurd (begun usage);
     none = λ none. absurd (cc (none, is));

@@ -1,5 +1,5 @@
 -- What a generated script's run leaves.
-use Rattle.std.proofs.Common.{◌≡◌, ◌≢◌, ◌∙◌, inl, inr, ℕ, ◌≤◌, true, List, [], ◌∷◌, Option, Some, refl, sym, ap, arith}
+use Rattle.std.proofs.Common.{◌≡◌, ◌≢◌, ◌∙◌, inl, inr, ℕ, ◌≤◌, Bool, true, false, List, [], ◌∷◌, Option, Some, refl, sym, ap, arith}
 use Rattle.std.specs.Prelude.{IsTrue}
 use Rattle.std.specs.List.{AllByRecursion}
 use Rattle.ctr_types.specs.declared.statement.Line.{Line}
@@ -15,6 +15,7 @@ use Rattle.ctr_serial.proofs.Lists.{serial_front}
 use Rattle.ctr_database.specs.ctr_run.ctr_world.Opened.{CanRun, IsRunLine}
 use Rattle.ctr_database.specs.ctr_run.ctr_world.totals_Totals.{no_totals}
 use Rattle.ctr_database.specs.ctr_run.Counting.{CountsAsked}
+use Rattle.ctr_database.specs.ctr_run.Promises.{IsRunOf}
 use Rattle.ctr_database.specs.ctr_run.Running.{EndsAsAsked, EndsFor, RunsInOrder, RunsNone, RunsOver}
 use Rattle.ctr_database.specs.ctr_run.declared.ran.Ran.{Ran}
 use Rattle.ctr_database.specs.ctr_run.declared.ran.RunEnd.TheVariants as run
@@ -33,7 +34,7 @@ use Rattle.ctr_top.proofs.ScriptLemmas.{run_line}
 
 -- the lines that a load asks for
 abbrev pub lines_asked : Option Subcommand → List Line
-lines_asked (Some (subcommand.Load frames sessions count seed)) = generated sessions count seed
+lines_asked (Some (subcommand.Load frames threads sessions count seed)) = generated sessions count seed
 lines_asked _ = []
 
 spelled_run : (ls : List Line) → AllByRecursion IsSpelled ls → AllByRecursion IsRunLine ls
@@ -47,38 +48,49 @@ generated_runs spelled few sessions count seed some most small = record {
   few = let most_lines = (few sessions count seed).1 in omega (arith, most, small, most_lines);
 }
 
+-- whether the load is on threads
+abbrev pub threads_asked : Option Subcommand → Bool
+threads_asked (Some (subcommand.Load frames threads sessions count seed)) = threads
+threads_asked _ = false
+
 -- the script was made and run
-pub loads_ran : {D : Type 0} (g : Ghosts D) (old : D) (lines : List Line) (r : Ran D) (e : Ending) → e ≡ ran_as r.end
-    → RunsInOrder g old lines (r.end ≡ run.Finished) r.left
-    → ((base : State) → IsTrue g.tells → StandsForDatabase (g.reads old) base → RunsOver g old base lines (r.end ≡ run.Finished) r.left)
-    → IsSerial lines r.left.tape.entries
-    → ((error : OpenError) → r.end ≡ run.Unopened error → RunsNone g old r.left)
-    → EndsFor g old r.left.disk r.end
-    → CountsAsked g old lines true r
-    → ((base : State) → IsTrue g.tells → StandsForDatabase (g.reads old) base → EndsAsAsked g old r.left.disk r.end)
-    → Loads g old lines (record { ending = e; left = r.left })
-loads_ran g old lines r e is order over serial none ends counts complete =
+pub loads_ran : {D : Type 0} (g : Ghosts D) (old : D) (lines : List Line) (threads : Bool) (r : Ran D) (e : Ending) → e ≡ ran_as r.end → IsRunOf g old lines true r
+    → (threads ≡ false → IsSerial lines r.left.tape.entries) → Loads g old lines threads (record { ending = e; left = r.left })
+loads_ran g old lines threads r e is runs serial =
     let fine : e ≡ ending.Finished → r.end ≡ run.Finished = λ done. ran_fine r.end (sym is ∙ done) in
     record {
-      order = order_told g old lines r.left (r.end ≡ run.Finished) (e ≡ ending.Finished) fine order;
-      over = λ base told stands. over_told g old lines r.left (r.end ≡ run.Finished) (e ≡ ending.Finished) fine base (over base told stands);
+      order = order_told g old lines r.left (r.end ≡ run.Finished) (e ≡ ending.Finished) fine runs.order;
+      over = λ base told stands. over_told g old lines r.left (r.end ≡ run.Finished) (e ≡ ending.Finished) fine base (runs.ran base told stands);
       serial = serial;
-      causes = record { end = r.end; is = is; why = ends; none = none; asked = complete };
-      calm = λ other. ran_calm g old r.left.disk r.end ends (λ fault. other (is ∙ fault));
-      complete = λ base told stands passes no_disk. by_end g old (record { ending = e; left = r.left }) passes no_disk r.end is none (complete base told stands);
-      counted = λ base told stands done. counts.counted base told stands refl (fine done);
-      uncounted = λ other. counts.unfinished (λ finished. other (is ∙ ap ran_as finished));
+      causes = record { end = r.end; is = is; why = runs.ends; none = runs.none; asked = runs.complete };
+      calm = λ other. ran_calm g old r.left.disk r.end runs.ends (λ fault. other (is ∙ fault));
+      complete = λ base told stands passes no_disk. by_end g old (record { ending = e; left = r.left }) passes no_disk r.end is runs.none (runs.complete base told stands);
+      counted = λ base told stands done. runs.counts.counted base told stands refl (fine done);
+      uncounted = λ other. runs.counts.unfinished (λ finished. other (is ∙ ap ran_as finished));
     }
+
+-- what is so in serial order is so of either
+pub loads_either : {D : Type 0} (g : Ghosts D) (old : D) (lines : List Line) (threads : Bool) (o : Outcome D) → Loads g old lines false o → Loads g old lines threads o
+loads_either g old lines threads o h = record {
+  order = h.order;
+  over = h.over;
+  serial = λ none. h.serial refl;
+  causes = h.causes;
+  calm = h.calm;
+  complete = h.complete;
+  counted = h.counted;
+  uncounted = h.uncounted;
+}
 
 -- memory was refused for the script
 pub loads_refused : {D : Type 0} (g : Ghosts D) (earlier : (d : D) (s t : ℕ) (c : Image) → s ≤ t → g.since d t c → g.since d s c) (only_now : (d : D) (c : Image) → g.since d (g.moment_of d) c → g.images d c)
-    (old : D) (lines : List Line) (o : Outcome D) → o.left.disk ≡ old → o.left.tape.entries ≡ [] → o.left.undone ≡ 0 → o.left.totals ≡ no_totals → o.ending ≡ ending.OutOfMemory → Loads g old lines o
-loads_refused g earlier only_now old lines o disk tape undone totals is =
+    (old : D) (lines : List Line) (threads : Bool) (o : Outcome D) → o.left.disk ≡ old → o.left.tape.entries ≡ [] → o.left.undone ≡ 0 → o.left.totals ≡ no_totals → o.ending ≡ ending.OutOfMemory → Loads g old lines threads o
+loads_refused g earlier only_now old lines threads o disk tape undone totals is =
     let unfinished : o.ending ≢ ending.Finished = memory_not_fine o.ending is in
     record {
       order = untouched_in_order g earlier only_now old lines o.left (IsFinished o) unfinished tape undone disk;
       over = λ base told stands. untouched_over g earlier only_now old lines o.left (IsFinished o) unfinished tape undone disk base;
-      serial = serial_front lines 0 o.left.tape.entries (ap statements_on tape);
+      serial = λ none. serial_front lines 0 o.left.tape.entries (ap statements_on tape);
       causes = ends_refused g earlier only_now old o disk tape undone is;
       calm = λ other. ap (λ d. g.faults_of d) disk;
       complete = λ base told stands passes no_disk. inr (inl (is, tape));

@@ -1,6 +1,6 @@
 -- What a run leaves, and the cause of each status.
 use Rattle.std.proofs.Common.{◌≡◌, ◌≢◌, ◌⊎◌, ◌∙◌, inl, inr, ℕ, List, refl, sym, ap, subst}
-use Rattle.std.specs.Prelude.{IsTrue, Ok, Err}
+use Rattle.std.specs.Prelude.{◌≤◌, ◌+◌, IsTrue, Ok, Err, false, length}
 use Rattle.ctr_types.specs.Faults.{CountsFault}
 use Rattle.ctr_types.specs.declared.statement.Line.{Line}
 use Rattle.ctr_types.specs.declared.statement.Script.{Script}
@@ -15,14 +15,16 @@ use Rattle.ctr_script.specs.declared.error.ScriptError.TheVariants as script_err
 use Rattle.ctr_script.specs.Written.{ErrorHasCause, MayHinder, IsShortText, DecideAnswer}
 use Rattle.ctr_database.specs.ctr_run.ctr_world.Ended.{RefusesWith}
 use Rattle.ctr_database.specs.ctr_run.declared.ran.Left.{Left}
+use Rattle.ctr_database.specs.ctr_run.declared.ran.Ran.{Ran}
 use Rattle.ctr_database.specs.ctr_run.declared.ran.RunEnd.{RunEnd}
 use Rattle.ctr_database.specs.ctr_run.declared.ran.RunEnd.TheVariants as run
+use Rattle.ctr_database.specs.ctr_run.Promises.{IsRunOf}
 use Rattle.ctr_database.specs.ctr_run.Running.{EndsFor, RunsInOrder, RunsOver}
 use Rattle.ctr_top.specs.declared.outcome.Outcome.{Outcome}
 use Rattle.ctr_top.specs.declared.ending.Ending.{Ending}
 use Rattle.ctr_top.specs.declared.ending.Ending.TheVariants as ending
 use Rattle.ctr_top.specs.Endings.{opened_as, ran_as, read_as}
-use Rattle.ctr_top.specs.Top.{EndsBy, RunCauses, SourceWhy, IsScriptRead, IsHindered, IsByScript, IsUnrun, WantsScript}
+use Rattle.ctr_top.specs.Top.{EndsBy, GoesForward, RanScript, RunCauses, SourceWhy, IsScriptRead, IsHindered, IsByScript, IsUnrun, WantsScript}
 
 -- ---- how a run ended
 
@@ -155,3 +157,25 @@ module _ {D S : Type 0} (g : Ghosts D) (old : D) (s : Source S) (source new : S)
     disk_calm = λ other. ap (λ d. g.faults_of d) disk;
     source_calm = λ other. calm (λ fault. other (is ∙ ap read_as fault));
   }
+
+-- ---- a script that was read and run
+
+module _ {D S : Type 0} (g : Ghosts D) (old : D) (s : Source S) (source new : S) (script : Script) (r : Ran D) (e : Ending) (is : e ≡ ran_as r.end) (runs : IsRunOf g old script.lines false r) where
+  abbrev told_as : Outcome D
+  told_as = record { ending = e; left = r.left }
+
+  pub read_ran : ((bytes : List ℕ) × IsShortText bytes script.lines) → (IsTrue s.tells → IsShortText (s.left source) script.lines) → RanScript g old s source told_as
+  read_ran text read =
+      let only : e ≡ ending.Finished → r.end ≡ run.Finished = λ fine. ran_fine r.end (sym is ∙ fine) in
+      record {
+        lines = script.lines;
+        script = record { of_bytes = (text.0, text.1.written); script = λ t. inl (read t).written; at_end = λ t fine. (read t).written };
+        order = order_told g old script.lines r.left (r.end ≡ run.Finished) (e ≡ ending.Finished) only runs.order;
+        over = λ base told stands. over_told g old script.lines r.left (r.end ≡ run.Finished) (e ≡ ending.Finished) only base (runs.ran base told stands);
+      }
+
+  pub run_causes : (IsTrue s.tells → IsShortText (s.left source) script.lines) → (IsTrue s.tells → DecideAnswer (s.left source) (Ok script)) → s.faults_of new ≡ s.faults_of source → RunCauses g old s source new told_as
+  run_causes = lines_causes g old s source new told_as script (record { end = r.end; is = is; why = runs.ends; none = runs.none; asked = runs.complete })
+
+  pub run_forward : s.faults_of source ≤ s.faults_of new → (IsTrue s.tells → length (s.left source) ≤ length (s.left new) + 16777217) → GoesForward g s old r.left.disk source new
+  run_forward later taken = record { later = runs.order.later; disk_faults = runs.order.faults; source_faults = later; taken = taken }

@@ -38,7 +38,7 @@ use Rattle.ctr_database.specs.ctr_run.ctr_world.totals_Totals.{AreTotals, no_tot
 use Rattle.ctr_words.specs.declared.words.Subcommand.{Subcommand}
 use Rattle.ctr_words.specs.declared.words.Subcommand.TheVariants as subcommand
 use Rattle.ctr_top.specs.declared.outcome.Outcome.{Outcome}
-use Rattle.ctr_top.specs.declared.run.Ended.{Ended}
+use Rattle.ctr_top.specs.declared.commands.Ended.{Ended}
 use Rattle.ctr_top.specs.declared.ending.Ending.{Ending}
 use Rattle.ctr_top.specs.declared.ending.Ending.TheVariants as ending
 use Rattle.ctr_top.specs.Endings.{status_of, cause_of, ran_as, work}
@@ -167,16 +167,17 @@ EndsUnfailed e l = (e ≡ ending.Finished)
 
 -- ---- load
 
--- The lines were run, in serial order, or memory was refused before the disk was touched. What stands
--- of a script's run stands here: order, what a crash leaves, causes, and, where nothing fails, the end.
+-- The lines were run, in serial order unless on threads, or memory was refused before the disk was
+-- touched. What stands of a script's run stands here: order, what a crash leaves, causes, and, where
+-- nothing fails, the end.
 -- Over a database a load that is finished tells the rows of the table `load` and their sum, as they
 -- are behind all that asked for a commit; else it tells none.
-pub record Loads {D : Type 0} (g : Ghosts D) (old : D) (lines : List Line) (o : Outcome D)
-    : Type 0 where
+pub record Loads {D : Type 0} (g : Ghosts D) (old : D) (lines : List Line) (threads : Bool)
+    (o : Outcome D) : Type 0 where
   pub order : RunsInOrder g old lines (IsFinished o) o.left
   pub over : (base : State) → IsTrue g.tells → StandsForDatabase (g.reads old) base
       → RunsOver g old base lines (IsFinished o) o.left
-  pub serial : IsSerial lines o.left.tape.entries
+  pub serial : threads ≡ false → IsSerial lines o.left.tape.entries
   pub causes : EndsBy g old o
   pub calm : o.ending ≢ ending.DiskFault → g.faults_of o.left.disk ≡ g.faults_of old
   pub complete : (base : State) → IsTrue g.tells → StandsForDatabase (g.reads old) base
@@ -245,7 +246,7 @@ pub record MindsWords {D S : Type 0} (s : Source S) (asked : Option Subcommand) 
   pub usage : e.ending ≡ ending.Usage → asked ≡ None
   pub none : asked ≡ None → (e.ending ≡ ending.Usage) ⊎ (e.ending ≡ ending.OutOfMemory)
   pub untouched : asked ≡ None → (e.left.disk ≡ old) × IsUnrun e.left
-  pub only_run_reads : ((frames : ℕ) → asked ≡ Some (subcommand.Run frames) → ⊥)
+  pub only_run_reads : ((frames : ℕ) (threads : Bool) → asked ≡ Some (subcommand.Run frames threads) → ⊥)
       → source_new ≡ source
 
 -- ---- the text
@@ -254,8 +255,8 @@ pub record MindsWords {D S : Type 0} (s : Source S) (asked : Option Subcommand) 
 -- none end with a line that is the same for each.
 abbrev pub command_told : Option Subcommand → Survey → Command
 command_told (Some subcommand.Init) counts = command.Init
-command_told (Some (subcommand.Run frames)) counts = command.Run
-command_told (Some (subcommand.Load frames sessions count seed)) counts =
+command_told (Some (subcommand.Run frames threads)) counts = command.Run
+command_told (Some (subcommand.Load frames threads sessions count seed)) counts =
     command.Load sessions (length (generated sessions count seed))
 command_told (Some subcommand.Report) counts = command.Survey counts
 command_told None counts = command.Run

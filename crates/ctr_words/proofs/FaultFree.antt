@@ -14,10 +14,10 @@ use Rattle.clap.specs.declared.builder.action.ArgAction.TheVariants.{Set}
 use Rattle.clap.specs.declared.builder.value_parser.Reading.{Reading}
 use Rattle.clap.specs.declared.error.kind.ErrorKind.TheVariants as kind
 use Rattle.clap.specs.declared.parser.matches.ValueSource.{ValueSource}
-use Rattle.clap.specs.declared.parser.matches.ValueSource.TheVariants.{CommandLine}
+use Rattle.clap.specs.declared.parser.matches.ValueSource.TheVariants.{CommandLine, DefaultValue}
 use Rattle.clap.specs.Words.{new_rule}
 use Rattle.clap.proofs.FaultLemmas.{past}
-use Rattle.ctr_words.specs.Words.{frames_rule, simple_command}
+use Rattle.ctr_words.specs.Words.{frames_rule, threads_rule, simple_command}
 
 -- a step that has no fault where the first has none
 none : (a b : Kinds) → or_else a b ≡ [] → (a ≡ []) × (b ≡ [])
@@ -29,6 +29,9 @@ none (k ∷ ks) b h = cc
 -- the arguments of a run as `clap` completes them
 abbrev pub frames_filled : Rule
 frames_filled = filled frames_rule
+
+abbrev threads_filled : Rule
+threads_filled = filled threads_rule
 
 abbrev folder_filled : Rule
 folder_filled = with_index 1 (filled (record (new_rule (codes "DIR")) { required = true }))
@@ -94,6 +97,11 @@ folder_keeps again values rows h fine =
     fine_values (codes "DIR") (reading_by folder_filled) CommandLine (values_or_missing folder_filled values) (without (codes "DIR") rows)
     (λ is. let bad : false ≡ true = is in cc) (fine_without (codes "DIR") rows fine)
 
+threads_keeps : Keeps threads_filled
+threads_keeps again values rows h fine =
+    fine_values (codes "threads") (reading_by threads_filled) CommandLine (values_or_missing threads_filled values) (without (codes "threads") rows)
+    (λ is. let bad : false ≡ true = is in cc) (fine_without (codes "threads") rows fine)
+
 frames_keeps : Keeps frames_filled
 frames_keeps again values rows h fine =
     let given = values_or_missing frames_filled values in
@@ -105,9 +113,27 @@ frames_keeps again values rows h fine =
 help_keeps : Keeps help_filled
 help_keeps again values rows h fine = fine
 
+-- its default values keep them
+abbrev Defaults : Rule → Type 0
+Defaults a = (rows : List Row) → Fine rows → Fine (with_default rows a)
+
+without_defaults : (a : Rule) → a.defaults ≡ [] → Defaults a
+without_defaults a empty rows fine = pick (has_row a.id rows)
+  where
+    pick : (b : Bool) → Fine (if b then rows else default_rows a.id (reading_by a) a.defaults rows)
+    pick true = fine
+    pick false = rw empty fine
+
+threads_default : Defaults threads_filled
+threads_default rows fine = pick (has_row (codes "threads") rows)
+  where
+    pick : (b : Bool) → Fine (if b then rows else default_rows (codes "threads") (reading_by threads_filled) threads_filled.defaults rows)
+    pick true = fine
+    pick false = fine_values (codes "threads") (reading_by threads_filled) DefaultValue threads_filled.defaults rows (λ is. let bad : false ≡ true = is in cc) fine
+
 abbrev EachKeeps : List Rule → Type 0
 EachKeeps [] = ⊤
-EachKeeps (a ∷ rest) = Keeps a × (a.defaults ≡ []) × EachKeeps rest
+EachKeeps (a ∷ rest) = Keeps a × Defaults a × EachKeeps rest
 
 abbrev KeepsIfAny : Option Rule → Type 0
 KeepsIfAny None = ⊤
@@ -274,24 +300,17 @@ module _ (s : Shape) (keep : EachKeeps s.rules) where
       defaulted s.rules keep (settled s.rules end).rows
       (settles s.rules keep s.args_override_self end last.0 (walks [] (walk_from nothing_held) words parts.0 tt))
     where
-      default : (a : Rule) (rows : List Row) → a.defaults ≡ [] → Fine rows → Fine (with_default rows a)
-      default a rows empty fine = pick (has_row a.id rows)
-        where
-          pick : (b : Bool) → Fine (if b then rows else default_rows a.id (reading_by a) a.defaults rows)
-          pick true = fine
-          pick false = rw empty fine
-
       defaulted : (xs : List Rule) → EachKeeps xs → (rows : List Row) → Fine rows → Fine (fold with_default rows xs)
       defaulted [] k rows fine = fine
-      defaulted (x ∷ xs) k rows fine = defaulted xs k.2 (with_default rows x) (default x rows k.1 fine)
+      defaulted (x ∷ xs) k rows fine = defaulted xs k.2 (with_default rows x) (k.1 rows fine)
 
 -- ---- the run
 
 abbrev run_rules : List Rule
-run_rules = folder_filled ∷ frames_filled ∷ help_filled ∷ []
+run_rules = folder_filled ∷ threads_filled ∷ frames_filled ∷ help_filled ∷ []
 
 run_keeps : EachKeeps run_rules
-run_keeps = (folder_keeps, refl, (frames_keeps, refl, (help_keeps, refl, tt)))
+run_keeps = (folder_keeps, without_defaults folder_filled refl, (threads_keeps, threads_default, (frames_keeps, without_defaults frames_filled refl, (help_keeps, without_defaults help_filled refl, tt))))
 
 -- where it is the run's, each of its arguments keeps them
 abbrev IsRunIfNamed : Shape → Type 0

@@ -3,9 +3,10 @@ use Rattle.std.proofs.Common.{◌≡◌, ◌∙◌, ◌==◌, ℕ, List, [], ◌
 use Rattle.std.specs.Prelude.{IfSome, ◌≤◌, ◌&&◌, nat_le, if◌then◌else◌, option_and_then, option_map, pos, slice_get, unwrap_or}
 use Rattle.std.specs.Option.{option_map_or}
 use Rattle.std.specs.Str.{bytes_eq}
-use Rattle.std.specs.Str.Parse.{ParsesUnsigned, ExplainsUnsignedError, HasUnsignedDigitsIfOk, starts_with_minus}
+use Rattle.std.specs.Str.Parse.{ParsesBool, ParsesUnsigned, ExplainsUnsignedError, HasUnsignedDigitsIfOk, starts_with_minus}
 use Rattle.std.proofs.lemmas.Bool.{false≢true, le-leb, leb-true}
 use Rattle.std.proofs.lemmas.Int.{ints}
+use Rattle.std.proofs.lemmas.Slice.Eq.{bytes_eq-Decides}
 use Rattle.clap.specs.Words.{Text, Kinds, Row, IsAmong, IsSignedIn, ReadsOne, fault_of, one_of, read_as, subcommand_of, subcommand_rows_of, without_minus}
 use Rattle.clap.specs.Faults.{values_fault}
 use Rattle.clap.specs.Kinds.{or_else}
@@ -19,7 +20,7 @@ use Rattle.clap.specs.declared.parser.matches.ArgMatches.{ArgMatches}
 use Rattle.clap.proofs.ValueTestLemmas.{Accepts-accepts, accepts-Accepts}
 use Rattle.ctr_words.specs.declared.words.Subcommand.{Subcommand}
 use Rattle.ctr_words.specs.declared.words.Subcommand.TheVariants as asked
-use Rattle.ctr_words.specs.Words.{command_asked, frames_asked, has_folder, load_asked, number_asked, number_in, command_named, simple_command, unless_fault, AreInRange}
+use Rattle.ctr_words.specs.Words.{asks_threads, command_asked, frames_asked, has_folder, load_asked, number_asked, number_in, command_named, simple_command, unless_fault, AreInRange}
 use Rattle.ctr_words.specs.Read.{is_number, IsRead}
 use Rattle.ctr_words.proofs.FaultFree.{Fine, frames_filled, run_fine}
 
@@ -59,6 +60,23 @@ frames_read None rows r same none some number =
 frames_read (Some t) rows r same none some number =
     let told : is_unsigned_in 8 4096 t ≡ true = ap (λ o. option_map_or (is_unsigned_in 8 4096) o true) same ∙ number in
     ap (λ o. unwrap_or o 64) (one_read t r (some t refl) told) ∙ ap (λ o. option_map_or number_in o 64) same
+
+-- what is read of a flag is what the rows ask for
+pub threads_read : (E : Type 0) (text : Option Text) (rows : List Row) (r : Option Bool) → text ≡ one_of (codes "threads") rows → (text ≡ None → r ≡ None)
+    → ((t : Text) → text ≡ Some t → ReadsOne {E = E} ParsesBool t r) → unwrap_or r false ≡ asks_threads rows
+threads_read E None rows r same none some =
+    ap (λ o. unwrap_or o false) (none refl) ∙ ap (λ o. option_map_or (λ t. bytes_eq t (codes "true")) o false) same
+threads_read E (Some t) rows r same none some =
+    by_read r (some t refl) ∙ ap (λ o. option_map_or (λ t. bytes_eq t (codes "true")) o false) same
+  where
+    by_read : (r : Option Bool) → ReadsOne {E = E} ParsesBool t r → unwrap_or r false ≡ bytes_eq t (codes "true")
+    by_read (Some true) read = ap (λ (u : Text). bytes_eq u (codes "true")) (sym read)
+    by_read (Some false) read = ap (λ (u : Text). bytes_eq u (codes "true")) (sym read)
+    by_read None read = pick (bytes_eq t (codes "true")) refl
+      where
+        pick : (b : Bool) → bytes_eq t (codes "true") ≡ b → false ≡ b
+        pick true is = absurd (read.1.0 ((bytes_eq-Decides t (codes "true")).0 is))
+        pick false is = refl
 
 -- ---- the frames of a run without a fault
 
@@ -123,10 +141,10 @@ all_read words fault = go (subcommand_of simple_command words) refl
 
 -- ---- 8 to 4,096
 
-asked_fits : (rows : List Row) → is_number rows ≡ true → AreInRange (asked.Run (frames_asked rows))
-asked_fits rows number = go (one_of (codes "frames") rows) number
+asked_fits : (rows : List Row) → is_number rows ≡ true → (threads : Bool) → AreInRange (asked.Run (frames_asked rows) threads)
+asked_fits rows number threads = go (one_of (codes "frames") rows) number
   where
-    go : (o : Option Text) → option_map_or (is_unsigned_in 8 4096) o true ≡ true → AreInRange (asked.Run (option_map_or number_in o 64))
+    go : (o : Option Text) → option_map_or (is_unsigned_in 8 4096) o true ≡ true → AreInRange (asked.Run (option_map_or number_in o 64) threads)
     go None e = (omega arith, omega arith)
     go (Some text) e =
         let accepted = accepts-Accepts false (Unsigned 8 4096) text e in
@@ -152,28 +170,28 @@ load_fits rows s is =
     (λ n e. number_fits (codes "frames") 8 4096 n rows e) (λ n e. number_fits (codes "sessions") 1 8 n rows e) (λ n e. number_fits (codes "count") 0 1000000 n rows e) is
   where
     go : (frames sessions count seed : Option ℕ) → ((n : ℕ) → frames ≡ Some n → (8 ≤ n) × (n ≤ 4096)) → ((n : ℕ) → sessions ≡ Some n → (1 ≤ n) × (n ≤ 8)) → ((n : ℕ) → count ≡ Some n → (0 ≤ n) × (n ≤ 1000000))
-        → option_and_then (λ a. option_and_then (λ b. option_map (λ c. asked.Load (unwrap_or frames 64) a b c) seed) count) sessions ≡ Some s → AreInRange s
+        → option_and_then (λ a. option_and_then (λ b. option_map (λ c. asked.Load (unwrap_or frames 64) (asks_threads rows) a b c) seed) count) sessions ≡ Some s → AreInRange s
     go frames None count seed f g h e = absurd cc
     go frames (Some a) None seed f g h e = absurd cc
     go frames (Some a) (Some b) None f g h e = absurd cc
     go None (Some a) (Some b) (Some c) f g h e =
-        let here : asked.Load 64 a b c ≡ s = cc in
+        let here : asked.Load 64 (asks_threads rows) a b c ≡ s = cc in
         subst AreInRange here (omega arith, omega arith, (g a refl).0, (g a refl).1, (h b refl).1)
     go (Some n) (Some a) (Some b) (Some c) f g h e =
-        let here : asked.Load n a b c ≡ s = cc in
+        let here : asked.Load n (asks_threads rows) a b c ≡ s = cc in
         subst AreInRange here ((f n refl).0, (f n refl).1, (g a refl).0, (g a refl).1, (h b refl).1)
 
 named_fits : (met : Text × List Row) (s : Subcommand) → IsRead met → command_named met ≡ Some s → AreInRange s
 named_fits met s read is = go (bytes_eq met.0 (codes "init")) (bytes_eq met.0 (codes "run")) (bytes_eq met.0 (codes "load")) (bytes_eq met.0 (codes "report")) refl is
   where
     go : (init run load report : Bool) → bytes_eq met.0 (codes "run") ≡ run
-        → (if init then Some asked.Init else if run then Some (asked.Run (frames_asked met.1)) else if load then load_asked met.1 else if report then Some asked.Report else None) ≡ Some s → AreInRange s
+        → (if init then Some asked.Init else if run then Some (asked.Run (frames_asked met.1) (asks_threads met.1)) else if load then load_asked met.1 else if report then Some asked.Report else None) ≡ Some s → AreInRange s
     go true run load report met_run same =
         let here : asked.Init ≡ s = cc in
         subst AreInRange here tt
     go false true load report met_run same =
-        let here : asked.Run (frames_asked met.1) ≡ s = cc in
-        subst AreInRange here (asked_fits met.1 (read met_run))
+        let here : asked.Run (frames_asked met.1) (asks_threads met.1) ≡ s = cc in
+        subst AreInRange here (asked_fits met.1 (read met_run) (asks_threads met.1))
     go false false true report met_run same = load_fits met.1 s same
     go false false false true met_run same =
         let here : asked.Report ≡ s = cc in

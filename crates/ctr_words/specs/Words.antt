@@ -6,7 +6,7 @@ use Rattle.std.specs.Str.{bytes_eq}
 use Rattle.std.specs.Str.Parse.{digits_value, without_leading_plus}
 use Rattle.clap.specs.Words.{App, Kinds, Row, Rule, Text, fault_of, new_app, new_rule, one_of}
 use Rattle.clap.specs.Words.{subcommand_of, with_rule, with_subcommand}
-use Rattle.clap.specs.declared.builder.action.ArgAction.TheVariants.{Set}
+use Rattle.clap.specs.declared.builder.action.ArgAction.TheVariants.{Set, SetTrue}
 use Rattle.clap.specs.ValueTests.{is_unsigned_in}
 use Rattle.clap.specs.declared.builder.value_parser.ValueParser.TheVariants.{Signed, Unsigned}
 use Rattle.ctr_words.specs.declared.words.Subcommand.{Subcommand}
@@ -26,6 +26,13 @@ frames_rule = record (new_rule (codes "frames")) {
   parser = Some (Signed (pos 8) (pos 4096));
 }
 
+-- the option `--threads`, without a value
+abbrev pub threads_rule : Rule
+threads_rule = record (new_rule (codes "threads")) {
+  long = Some (codes "threads");
+  action = Some SetTrue;
+}
+
 -- an option that has to be there, with a number from one to another
 abbrev pub number_rule : Text → ℕ → ℕ → Rule
 number_rule name least most = record (new_rule name) {
@@ -35,11 +42,15 @@ number_rule name least most = record (new_rule name) {
   parser = Some (Unsigned least most);
 }
 
--- `load DIR --sessions S --count C --seed X [--frames N]`
+-- the options `--threads` and `--frames`, of a run and of a load
+abbrev pub with_pace : App → App
+with_pace a = with_rule (with_rule a threads_rule) frames_rule
+
+-- `load DIR --sessions S --count C --seed X [--threads] [--frames N]`
 abbrev pub load_command : App
-load_command = with_rule (with_rule (with_rule (with_rule (over_folder (codes "load"))
+load_command = with_pace (with_rule (with_rule (with_rule (over_folder (codes "load"))
     (number_rule (codes "sessions") 1 8)) (number_rule (codes "count") 0 1000000))
-    (number_rule (codes "seed") 0 18446744073709551615)) frames_rule
+    (number_rule (codes "seed") 0 18446744073709551615))
 
 -- no command and no program's name: one of the commands below has to follow
 abbrev pub no_command : App
@@ -51,10 +62,10 @@ no_command = record (new_app (codes "ctr")) {
 abbrev pub or_command : App → App → App
 or_command a below = with_subcommand a below.top
 
--- The simple command: `init DIR`, `run DIR [--frames N]`, the load and `report DIR`.
+-- The simple command: `init DIR`, `run DIR [--threads] [--frames N]`, the load and `report DIR`.
 abbrev pub simple_command : App
 simple_command = or_command (or_command (or_command (or_command no_command
-    (over_folder (codes "init"))) (with_rule (over_folder (codes "run")) frames_rule))
+    (over_folder (codes "init"))) (with_pace (over_folder (codes "run"))))
     load_command) (over_folder (codes "report"))
 
 -- a word that doesn't begin with -
@@ -76,6 +87,11 @@ number_in text = digits_value 10 (without_leading_plus text)
 abbrev pub frames_asked : List Row → ℕ
 frames_asked rows = option_map_or number_in (one_of (codes "frames") rows) 64
 
+-- the rows ask for threads
+abbrev pub asks_threads : List Row → Bool
+asks_threads rows =
+    option_map_or (λ t. bytes_eq t (codes "true")) (one_of (codes "threads") rows) false
+
 -- the number that the rows have for an option, from one to another; none where they have none
 abbrev pub number_asked : Text → ℕ → ℕ → List Row → Option ℕ
 number_asked name least most rows =
@@ -85,14 +101,15 @@ number_asked name least most rows =
 -- The load that the rows ask for, where they have its three numbers; 64 frames where they have none.
 abbrev pub load_asked : List Row → Option Subcommand
 load_asked rows = option_and_then (λ sessions. option_and_then (λ count. option_map (λ seed.
-    asked.Load (unwrap_or (number_asked (codes "frames") 8 4096 rows) 64) sessions count seed)
+    asked.Load (unwrap_or (number_asked (codes "frames") 8 4096 rows) 64) (asks_threads rows)
+    sessions count seed)
     (number_asked (codes "seed") 0 18446744073709551615 rows))
     (number_asked (codes "count") 0 1000000 rows)) (number_asked (codes "sessions") 1 8 rows)
 
 -- the command of a name, with its rows
 abbrev pub command_named : Text × List Row → Option Subcommand
 command_named met = if bytes_eq met.0 (codes "init") then Some asked.Init
-    else if bytes_eq met.0 (codes "run") then Some (asked.Run (frames_asked met.1))
+    else if bytes_eq met.0 (codes "run") then Some (asked.Run (frames_asked met.1) (asks_threads met.1))
     else if bytes_eq met.0 (codes "load") then load_asked met.1
     else if bytes_eq met.0 (codes "report") then Some asked.Report else None
 
@@ -114,8 +131,8 @@ AsksForNothing asked e = ((e ≡ error.Usage) × (asked ≡ None)) ⊎ (e ≡ er
 
 -- Frames are 8 to 4,096; a load has 1 to 8 sessions, and no more than 1,000,000 rounds.
 abbrev pub AreInRange : Subcommand → Type 0
-AreInRange (asked.Run frames) = (8 ≤ frames) × (frames ≤ 4096)
-AreInRange (asked.Load frames sessions count seed) = (8 ≤ frames) × (frames ≤ 4096)
+AreInRange (asked.Run frames threads) = (8 ≤ frames) × (frames ≤ 4096)
+AreInRange (asked.Load frames threads sessions count seed) = (8 ≤ frames) × (frames ≤ 4096)
     × (1 ≤ sessions) × (sessions ≤ 8) × (count ≤ 1000000)
 AreInRange asked.Init = ⊤
 AreInRange asked.Report = ⊤

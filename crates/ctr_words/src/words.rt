@@ -3,8 +3,8 @@ ghost use Rattle.std.specs.Prelude.{◌≡◌, map, true, false, IfOk, IfErr, So
 ghost use Rattle.std.specs.String.{string_bytes};
 ghost use Rattle.clap.specs.Words.{app_of, found_of, rows_of, rule_of, subcommand_rows_of};
 ghost use Rattle.clap.specs.declared.builder.command.Command.TheViews.{out-Command as fields_of};
-ghost use Rattle.ctr_words.specs.Words.{frames_rule, number_rule, load_command, simple_command, has_folder};
-ghost use Rattle.ctr_words.specs.Words.{number_asked, frames_asked, load_asked, command_named};
+ghost use Rattle.ctr_words.specs.Words.{frames_rule, threads_rule, number_rule, load_command, simple_command, has_folder};
+ghost use Rattle.ctr_words.specs.Words.{number_asked, frames_asked, asks_threads, load_asked, command_named};
 ghost use Rattle.ctr_words.specs.Words.{command_asked, AsksForNothing, AreInRange};
 ghost use Rattle.ctr_words.specs.Read.{is_number, IsRead};
 
@@ -20,14 +20,16 @@ pub const FRAMES: u16 = 64;
 pub enum Subcommand {
     /// Makes the empty database.
     Init,
-    /// Runs the script of the source, over a pool of so many frames: 8 to 4,096.
+    /// Runs the script of the source, over a pool of so many frames: 8 to 4,096; its sessions side by side, where threads are asked for.
     Run {
         frames: u16,
+        threads: bool,
     },
     /// Runs a generated script of so many sessions, 1 to 8, and so many rounds, up to 1,000,000, drawn from a seed, over a pool of so many
-    /// frames: 8 to 4,096.
+    /// frames: 8 to 4,096; its sessions side by side, where threads are asked for.
     Load {
         frames: u16,
+        threads: bool,
         sessions: u8,
         count: u64,
         seed: u64,
@@ -56,6 +58,15 @@ fn frames_option<'a>(alloc: Global) -> Arg<'a>
         .long("frames")
         .action(ArgAction::Set)
         .value_parser(clap::value_parser!(u16).range(8..=4096))
+}
+
+// The other option of both.
+fn threads_option<'a>(alloc: Global) -> Arg<'a>
+    ensures { (rule_of result ≡ threads_rule) × (result.global ≡ false) }
+{
+    Arg::new(alloc, "threads")
+        .long("threads")
+        .action(ArgAction::SetTrue)
 }
 
 // The number of a load's sessions.
@@ -99,7 +110,8 @@ fn load<'a>(alloc: Global) -> Result<Command<'a>, AllocError>
     let of_sessions = over.arg(sessions_option(alloc))?;
     let of_rounds = of_sessions.arg(count_option(alloc))?;
     let drawn = of_rounds.arg(seed_option(alloc))?;
-    drawn.arg(frames_option(alloc))
+    let beside = drawn.arg(threads_option(alloc))?;
+    beside.arg(frames_option(alloc))
 }
 
 // The program's command line.
@@ -108,7 +120,8 @@ fn simple<'a>(alloc: Global) -> Result<Command<'a>, AllocError>
 {
     let init = Command::new(alloc, "init").arg(Arg::new(alloc, "DIR").required(true))?;
     let over = Command::new(alloc, "run").arg(Arg::new(alloc, "DIR").required(true))?;
-    let run = over.arg(frames_option(alloc))?;
+    let beside = over.arg(threads_option(alloc))?;
+    let run = beside.arg(frames_option(alloc))?;
     let report = Command::new(alloc, "report").arg(Arg::new(alloc, "DIR").required(true))?;
     Command::new(alloc, "ctr")
         .no_binary_name(true)
@@ -134,6 +147,13 @@ fn frames(matches: &ArgMatches<'_>) -> u16
     ensures { is_number (rows_of (found_of matches.now)) ≡ true → result ≡ frames_asked (rows_of (found_of matches.now)) }
 {
     matches.get_one("frames").unwrap_or(FRAMES)
+}
+
+// Whether threads are asked for.
+fn threads(matches: &ArgMatches<'_>) -> bool
+    ensures { result ≡ asks_threads (rows_of (found_of matches.now)) }
+{
+    matches.get_one("threads").unwrap_or(false)
 }
 
 // A number that lies in a range.
@@ -163,6 +183,7 @@ fn load_met(matches: &ArgMatches<'_>) -> Option<Subcommand>
     let frames = number(matches, "frames", 8, 4096).unwrap_or(u64::from(FRAMES));
     Some(Subcommand::Load {
         frames: frames as u16,
+        threads: threads(matches),
         sessions: sessions as u8,
         count,
         seed,
@@ -177,6 +198,7 @@ fn named(name: &str, matches: &ArgMatches<'_>) -> Option<Subcommand>
         "init" => Some(Subcommand::Init),
         "run" => Some(Subcommand::Run {
             frames: frames(matches),
+            threads: threads(matches),
         }),
         "load" => load_met(matches),
         "report" => Some(Subcommand::Report),
@@ -209,8 +231,8 @@ fn parse(alloc: Global, words: &[String]) -> Result<Option<Subcommand>, AllocErr
     }
 }
 
-/// What the words behind the program's name ask for: `init DIR`, `run DIR [--frames N]`, `load DIR --sessions S --count C --seed X [--frames N]` or
-/// `report DIR`.
+/// What the words behind the program's name ask for: `init DIR`, `run DIR [--threads] [--frames N]`,
+/// `load DIR --sessions S --count C --seed X [--threads] [--frames N]` or `report DIR`.
 /// Words that are no command are refused with `Usage`.
 pub fn command(alloc: Global, words: &[String]) -> Result<Subcommand, WordsError>
     ensures asked { IfOk result (λ s. command_asked (map string_bytes words.now) ≡ Some s) }

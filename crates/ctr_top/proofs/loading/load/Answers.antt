@@ -1,4 +1,4 @@
-use Rattle.std.proofs.Common.{◌∙◌, inl, inr, refl, sym, ap, subst}
+use Rattle.std.proofs.Common.{◌∙◌, inl, inr, false, refl, sym, ap, subst}
 use Rattle.std.specs.Prelude.{length}
 use Rattle.ctr_database.specs.ctr_run.ctr_world.Opened.{CanRun}
 use Rattle.ctr_top.specs.Top.{Loads}
@@ -14,9 +14,9 @@ run-ran-requires-clause-runs g c =
 pub returns-in-Ok-clause-loads : goal.returns-in-Ok-clause-loads
 returns-in-Ok-clause-loads g c =
     let d = g.D.Disk in
-    let r = c.run-ran.ensures in
-    subst (λ ls. Loads d c.args.disk ls (record { ending = c.ended.result; left = c.run-ran.result.left })) c.in-Ok.ensures
-    (loads_ran d c.args.disk c.in-Ok.script.lines c.run-ran.result c.ended.result c.ended.ensures r.order r.ran (r.serial refl) r.none r.ends r.counts r.complete)
+    let r = c.run-ran in
+    subst (λ ls. Loads d c.args.disk ls false (record { ending = c.ended.result; left = r.result.left })) c.in-Ok.ensures
+    (loads_ran d c.args.disk c.in-Ok.script.lines false r.result c.ended.result c.ended.ensures (record { ran = r.ensures.ran; order = r.ensures.order; none = r.ensures.none; ends = r.ensures.ends; counts = r.ensures.counts; complete = r.ensures.complete }) (λ none. r.ensures.serial refl))
 
 pub returns-in-Ok-clause-statements : goal.returns-in-Ok-clause-statements
 returns-in-Ok-clause-statements g c = inl (c.len-statements.ensures ∙ ap length c.in-Ok.ensures)
@@ -24,7 +24,7 @@ returns-in-Ok-clause-statements g c = inl (c.len-statements.ensures ∙ ap lengt
 pub returns-in-Err-clause-loads : goal.returns-in-Err-clause-loads
 returns-in-Err-clause-loads g c =
     let t = c.without_tape.ensures in
-    loads_refused g.D.Disk g.met.D.Disk.earlier g.met.D.Disk.only_now c.args.disk _ c.without_tape.result t.disk t.tape t.undone t.totals t.ending
+    loads_refused g.D.Disk g.met.D.Disk.earlier g.met.D.Disk.only_now c.args.disk _ false c.without_tape.result t.disk t.tape t.undone t.totals t.ending
 
 pub returns-in-Err-clause-statements : goal.returns-in-Err-clause-statements
 returns-in-Err-clause-statements g c = inr c.without_tape.ensures.ending

@@ -1,10 +1,8 @@
-use Rattle.std.proofs.Common.{◌≡◌, ◌∙◌, inl, sym, subst, ap, arith}
+use Rattle.std.proofs.Common.{◌∙◌, sym, subst, ap, arith}
 use Rattle.ctr_model.specs.Tape.{statements_on, IsSerial}
 use Rattle.ctr_serial.proofs.Lists.{serial_front}
-use Rattle.ctr_database.specs.ctr_run.declared.ran.RunEnd.TheVariants as run
-use Rattle.ctr_top.specs.declared.ending.Ending.TheVariants as ending
 use Rattle.ctr_top.proofs.NothingDone.{ends_refused, ran_unread}
-use Rattle.ctr_top.proofs.RunLemmas.{lines_causes, not_read_fine, order_told, over_told, ran_fine, read_causes}
+use Rattle.ctr_top.proofs.RunLemmas.{not_read_fine, read_causes, read_ran, run_causes, run_forward}
 use Rattle.ctr_top.proofs.ScriptLemmas.{lines_run, lines_at_most}
 use Rattle.ctr_top.proofs.script.run_script.Goals as goal
 
@@ -17,31 +15,13 @@ run-ran-requires-clause-runs g c =
 
 pub returns-in-Ok-clause-ran : goal.returns-in-Ok-clause-ran
 returns-in-Ok-clause-ran g c =
-    let d = g.D.Disk in
-    let old = c.args.disk in
-    let lines = c.in-Ok.script.lines in
-    let r = c.run-ran.result in
-    let only : c.ended.result ≡ ending.Finished → r.end ≡ run.Finished = λ is. ran_fine r.end (sym c.ended.ensures ∙ is) in
-    record {
-      lines = lines;
-      script = record {
-        of_bytes = let s = c.in-Ok.ensures.is_script in (s.0, s.1.written);
-        script = λ t. inl (c.in-Ok.ensures.read t).written;
-        at_end = λ t is. (c.in-Ok.ensures.read t).written;
-      };
-      order = order_told d old lines r.left (r.end ≡ run.Finished) (c.ended.result ≡ ending.Finished) only c.run-ran.ensures.order;
-      over = λ base told stands. over_told d old lines r.left (r.end ≡ run.Finished) (c.ended.result ≡ ending.Finished) only base (c.run-ran.ensures.ran base told stands);
-    }
+    let r = c.in-Ok.ensures in
+    read_ran g.D.Disk c.args.disk g.S.Source c.args.source.now c.read_script.new.source c.in-Ok.script c.run-ran.result c.ended.result c.ended.ensures (record { ran = c.run-ran.ensures.ran; order = c.run-ran.ensures.order; none = c.run-ran.ensures.none; ends = c.run-ran.ensures.ends; counts = c.run-ran.ensures.counts; complete = c.run-ran.ensures.complete }) r.is_script r.read
 
 pub returns-in-Ok-clause-causes : goal.returns-in-Ok-clause-causes
 returns-in-Ok-clause-causes g c =
-    let d = g.D.Disk in
-    let s = g.S.Source in
     let r = c.in-Ok.ensures in
-    let ran = c.run-ran in
-    lines_causes d c.args.disk s c.args.source.now c.read_script.new.source (record { ending = c.ended.result; left = ran.result.left }) c.in-Ok.script
-    (record { end = ran.result.end; is = c.ended.ensures; why = ran.ensures.ends; none = λ error unopened. ran.ensures.none error unopened; asked = λ base told stands. ran.ensures.complete base told stands })
-    r.read r.only (r.faults.fine (λ is. absurd (cc is)))
+    run_causes g.D.Disk c.args.disk g.S.Source c.args.source.now c.read_script.new.source c.in-Ok.script c.run-ran.result c.ended.result c.ended.ensures (record { ran = c.run-ran.ensures.ran; order = c.run-ran.ensures.order; none = c.run-ran.ensures.none; ends = c.run-ran.ensures.ends; counts = c.run-ran.ensures.counts; complete = c.run-ran.ensures.complete }) r.read r.only (r.faults.fine (λ is. absurd (cc is)))
 
 pub returns-in-Ok-clause-serial : goal.returns-in-Ok-clause-serial
 returns-in-Ok-clause-serial g c = λ is told lines written.
@@ -52,8 +32,7 @@ returns-in-Ok-clause-serial g c = λ is told lines written.
 pub returns-in-Ok-clause-forward : goal.returns-in-Ok-clause-forward
 returns-in-Ok-clause-forward g c =
     let r = c.in-Ok.ensures in
-    let order = c.run-ran.ensures.order in
-    record { later = order.later; disk_faults = order.faults; source_faults = r.faults.later; taken = r.taken }
+    run_forward g.D.Disk c.args.disk g.S.Source c.args.source.now c.read_script.new.source c.in-Ok.script c.run-ran.result c.ended.result c.ended.ensures (record { ran = c.run-ran.ensures.ran; order = c.run-ran.ensures.order; none = c.run-ran.ensures.none; ends = c.run-ran.ensures.ends; counts = c.run-ran.ensures.counts; complete = c.run-ran.ensures.complete }) r.faults.later r.taken
 
 -- ---- one that wasn't
 

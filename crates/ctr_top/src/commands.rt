@@ -1,5 +1,5 @@
 // The commands from words to a last line.
-ghost use Rattle.std.specs.Prelude.{◌≡◌, ◌≢◌, ◌≤◌, true, false, ◌++◌, IsTrue, ℕ, List, Some, map};
+ghost use Rattle.std.specs.Prelude.{◌≡◌, ◌≢◌, ◌≤◌, true, false, ◌++◌, Bool, IsTrue, ℕ, List, Some, map};
 ghost use Rattle.std.specs.String.{string_bytes};
 ghost use Rattle.ctr_types.specs.declared.statement.Line.{Line};
 ghost use Rattle.ctr_model.specs.Language.{SpellsLine};
@@ -18,12 +18,12 @@ ghost use Rattle.ctr_top.specs.Endings.{status_of, cause_of, work};
 ghost use Rattle.ctr_top.specs.Top.{RanScript, RunCauses, EndsUnfailed, Makes, GoesForward, MindsWords, PutsText, NoneFailed, Loads, Reports, command_told, printed_text, shown_tape, work_of, report_of, faults_of};
 
 use crate::ending::{Ending, not_asked};
-use crate::loading::load;
+use crate::loading::{load, load_on_threads};
 use crate::making::make;
 use crate::outcome::Outcome;
 use crate::report::{UNCOUNTED, report};
-use crate::script::run_script;
-use ctr_database::running::{Left, Schedule};
+use crate::script::{run_script, run_script_on_threads};
+use ctr_database::running::{Gate, Left, Schedule, Workers};
 use ctr_disk::Disk;
 use ctr_io::{Sink, Source, Tape};
 use ctr_model::{Cause, Command, Report, Survey};
@@ -31,6 +31,8 @@ use ctr_print::{Printer, count_answers, count_refusals, put_last_line, put_run};
 use ctr_script::one_script;
 use ctr_words::{FRAMES, Subcommand, command};
 use std::alloc::Global;
+use std::sync::Wait;
+use std::thread::Threads;
 
 /// How a command ended.
 #[derive(Drop)]
@@ -124,9 +126,10 @@ fn ending<D, K: Sink>(sink: &mut K, command: &Command, outcome: Outcome<D>) -> E
 
 /// Runs a command: the words behind the program's name, over a disk, from a source to a sink.
 ///
-/// `init DIR` makes the empty database; `run DIR [--frames N]` runs the script of the source, with so many frames for the database's pages;
-/// `load DIR --sessions S --count C --seed X [--frames N]` runs the generated script of S sessions and C rounds, drawn from the seed X; `report DIR` counts what the database holds. DIR doesn't begin with `-`, and the disk is that of the folder. How it ends, and by
-/// which status, is an `Ending`.
+/// `init DIR` makes the empty database; `run DIR [--threads] [--frames N]` runs the script of the source, with so many frames for the database's pages;
+/// `load DIR --sessions S --count C --seed X [--threads] [--frames N]` runs the generated script of S sessions and C rounds, drawn from the seed X; `report DIR`
+/// counts what the database holds. DIR doesn't begin with `-`, and the disk is that of the folder. How it ends, and by which status, is an `Ending`. Scripts are
+/// run in serial order, also where threads are asked for: those are for `run`.
 pub fn run_serial<D: Disk, S: Source, K: Sink>(
     alloc: Global,
     words: &[String],
@@ -141,13 +144,13 @@ pub fn run_serial<D: Disk, S: Source, K: Sink>(
     ensures usage { MindsWords S.Source (command_asked (map string_bytes words.now)) disk result source.old source.new }
     // A run's tape stands in the order of its script, whatever the disk tells; over the database that the disk holds it is legal, and a crash at any
     // moment from the call's start to its end leaves a prefix of the commit order with every commit answered by then.
-    ensures ran { (frames : ℕ) → command_asked (map string_bytes words.now) ≡ Some (Subcommand.Run frames) → RanScript D.Disk disk S.Source source.old (work_of result) }
-    ensures run_causes { (frames : ℕ) → command_asked (map string_bytes words.now) ≡ Some (Subcommand.Run frames) → RunCauses D.Disk disk S.Source source.old source.new (work_of result) }
+    ensures ran { (frames : ℕ) (threads : Bool) → command_asked (map string_bytes words.now) ≡ Some (Subcommand.Run frames threads) → RanScript D.Disk disk S.Source source.old (work_of result) }
+    ensures run_causes { (frames : ℕ) (threads : Bool) → command_asked (map string_bytes words.now) ≡ Some (Subcommand.Run frames threads) → RunCauses D.Disk disk S.Source source.old source.new (work_of result) }
     // The statements stand on the tape in the order of the script's lines, each one's entries together.
-    ensures serial { (frames : ℕ) → command_asked (map string_bytes words.now) ≡ Some (Subcommand.Run frames) → IsTrue S.tells → (lines : List Line)
+    ensures serial { (frames : ℕ) (threads : Bool) → command_asked (map string_bytes words.now) ≡ Some (Subcommand.Run frames threads) → IsTrue S.tells → (lines : List Line)
         → IsWritten SpellsLine (S.left source.old) lines → IsSerial lines result.left.tape.entries }
     // Where nothing fails a script runs to its end, or memory was refused before its first entry, or the last number of a record is told.
-    ensures complete { (frames : ℕ) → command_asked (map string_bytes words.now) ≡ Some (Subcommand.Run frames) → IsTrue D.tells → IsTrue S.tells
+    ensures complete { (frames : ℕ) (threads : Bool) → command_asked (map string_bytes words.now) ≡ Some (Subcommand.Run frames threads) → IsTrue D.tells → IsTrue S.tells
         → (lines : List Line) → IsShortText (S.left source.old) lines → (s : State) → StandsForDatabase (D.reads disk) s → PassesOpening (D.reads disk)
         → NoneFailed (faults_of D.Disk S.Source K.Sink disk source.old sink.old) (faults_of D.Disk S.Source K.Sink result.left.disk source.new sink.new)
         → EndsUnfailed result.ending result.left }
@@ -155,8 +158,8 @@ pub fn run_serial<D: Disk, S: Source, K: Sink>(
     // A report logs nothing, and tells what the disk held at the start.
     ensures report { command_asked (map string_bytes words.now) ≡ Some Subcommand.Report → Reports D.Disk disk result }
     // A load runs its generated script as a run does the source's, and tells the totals of the table `load`.
-    ensures loaded { (frames sessions count seed : ℕ) → command_asked (map string_bytes words.now) ≡ Some (Subcommand.Load frames sessions count seed)
-        → Loads D.Disk disk (generated sessions count seed) (work_of result) }
+    ensures loaded { (frames : ℕ) (threads : Bool) (sessions count seed : ℕ) → command_asked (map string_bytes words.now) ≡ Some (Subcommand.Load frames threads sessions count seed)
+        → Loads D.Disk disk (generated sessions count seed) false (work_of result) }
     // A command that is finished has met no fault.
     ensures calm { result.ending ≡ Finished
         → faults_of D.Disk S.Source K.Sink result.left.disk source.new sink.new ≡ faults_of D.Disk S.Source K.Sink disk source.old sink.old }
@@ -176,12 +179,13 @@ pub fn run_serial<D: Disk, S: Source, K: Sink>(
             let (start, outcome) = report(alloc, disk, usize::from(FRAMES));
             ending(sink, &Command::Survey { start }, outcome)
         }
-        Subcommand::Run { frames } => {
+        Subcommand::Run { frames, threads: _ } => {
             let outcome = run_script(alloc, disk, usize::from(frames), source, Schedule::Serial);
             ending(sink, &Command::Run, outcome)
         }
         Subcommand::Load {
             frames,
+            threads: _,
             sessions,
             count,
             seed,
@@ -200,5 +204,85 @@ pub fn run_serial<D: Disk, S: Source, K: Sink>(
             };
             ending(sink, &command, outcome)
         }
+    }
+}
+
+/// Runs a command as `run_serial` does, but a script for which threads are asked: of such a one each session that it names, the flusher, the cleaner and undo
+/// have a thread of their own, which takes its turns behind the gate. The same is promised, but for the order of the statements of different sessions.
+pub fn run<R: Threads + Wait + Sync, D: Disk + Send, S: Source, K: Sink, G: Gate + Sync>(
+    rt: &R,
+    alloc: Global,
+    words: &[String],
+    disk: D,
+    source: &mut S,
+    sink: &mut K,
+    gate: &G,
+) -> Ended<D>
+    // The text of the tape and the ending was put, or a prefix of it where the sink failed.
+    ensures printed { PutsText K.Sink sink.old (printed_text (command_told (command_asked (map string_bytes words.now)) result.survey) result) sink.new result.ending }
+    ensures tape { result.report ≡ report_of result.left }
+    // Usage comes exactly for words that are no command, unless memory is refused.
+    ensures usage { MindsWords S.Source (command_asked (map string_bytes words.now)) disk result source.old source.new }
+    // A run's tape stands in the order of its script, whatever the disk tells; over the database that the disk holds it is legal, and a crash at any
+    // moment from the call's start to its end leaves a prefix of the commit order with every commit answered by then.
+    ensures ran { (frames : ℕ) (threads : Bool) → command_asked (map string_bytes words.now) ≡ Some (Subcommand.Run frames threads) → RanScript D.Disk disk S.Source source.old (work_of result) }
+    ensures run_causes { (frames : ℕ) (threads : Bool) → command_asked (map string_bytes words.now) ≡ Some (Subcommand.Run frames threads) → RunCauses D.Disk disk S.Source source.old source.new (work_of result) }
+    // Without threads the statements stand on the tape in the order of the script's lines, each one's entries together.
+    ensures serial { (frames : ℕ) → command_asked (map string_bytes words.now) ≡ Some (Subcommand.Run frames false) → IsTrue S.tells → (lines : List Line)
+        → IsWritten SpellsLine (S.left source.old) lines → IsSerial lines result.left.tape.entries }
+    // Where nothing fails a script runs to its end, or memory was refused before its first entry, or the last number of a record is told.
+    ensures complete { (frames : ℕ) (threads : Bool) → command_asked (map string_bytes words.now) ≡ Some (Subcommand.Run frames threads) → IsTrue D.tells → IsTrue S.tells
+        → (lines : List Line) → IsShortText (S.left source.old) lines → (s : State) → StandsForDatabase (D.reads disk) s → PassesOpening (D.reads disk)
+        → NoneFailed (faults_of D.Disk S.Source K.Sink disk source.old sink.old) (faults_of D.Disk S.Source K.Sink result.left.disk source.new sink.new)
+        → EndsUnfailed result.ending result.left }
+    ensures init { command_asked (map string_bytes words.now) ≡ Some Subcommand.Init → Makes D.Disk disk (work_of result) }
+    // A report logs nothing, and tells what the disk held at the start.
+    ensures report { command_asked (map string_bytes words.now) ≡ Some Subcommand.Report → Reports D.Disk disk result }
+    // A load runs its generated script as a run does the source's, and tells the totals of the table `load`.
+    ensures loaded { (frames : ℕ) (threads : Bool) (sessions count seed : ℕ) → command_asked (map string_bytes words.now) ≡ Some (Subcommand.Load frames threads sessions count seed)
+        → Loads D.Disk disk (generated sessions count seed) threads (work_of result) }
+    // A command that is finished has met no fault.
+    ensures calm { result.ending ≡ Finished
+        → faults_of D.Disk S.Source K.Sink result.left.disk source.new sink.new ≡ faults_of D.Disk S.Source K.Sink disk source.old sink.old }
+    ensures forward { GoesForward D.Disk S.Source disk result.left.disk source.old source.new }
+{
+    one_script();
+    match command(alloc, words) {
+        Ok(
+            Subcommand::Run {
+                frames,
+                threads: true,
+            },
+        ) => {
+            let workers = Workers { rt, gate, first: 0 };
+            let outcome = run_script_on_threads(workers, alloc, disk, usize::from(frames), source);
+            ending(sink, &Command::Run, outcome)
+        }
+        Ok(
+            Subcommand::Load {
+                frames,
+                threads: true,
+                sessions,
+                count,
+                seed,
+            },
+        ) => {
+            let workers = Workers { rt, gate, first: 3 };
+            let (statements, outcome) = load_on_threads(
+                workers,
+                alloc,
+                disk,
+                usize::from(frames),
+                sessions,
+                count,
+                seed,
+            );
+            let command = Command::Load {
+                sessions: sessions as u64,
+                statements,
+            };
+            ending(sink, &command, outcome)
+        }
+        _ => run_serial(alloc, words, disk, source, sink),
     }
 }

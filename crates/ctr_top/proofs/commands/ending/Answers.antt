@@ -6,7 +6,7 @@ use Rattle.ctr_model.specs.Texts.{last_line}
 use Rattle.ctr_print.specs.Prints.{PutsOn}
 use Rattle.ctr_top.specs.Endings.{status_of, cause_of}
 use Rattle.ctr_top.specs.Top.{report_of, shown_tape}
-use Rattle.ctr_top.proofs.run.ending.Goals as goal
+use Rattle.ctr_top.proofs.commands.ending.Goals as goal
 
 pub returns-clause-printed : goal.returns-clause-printed
 returns-clause-printed g c =
