@@ -36,7 +36,8 @@ no_pages = record { buckets = []; versions = 0 }
 abbrev pub RowVersion : Type 0
 RowVersion = ℕ × Option Row
 
--- a slot: the head, the version before it where the slot has one, and where the next older one is kept
+-- a slot: the head, the version before it where the slot has one, and where the next older one is
+-- kept
 pub record Slot : Type 0 where
   pub used : Bool
   pub key : ℤ
@@ -66,8 +67,8 @@ abbrev pub free_older : Older
 free_older = record { used = false; key = pos 0; version = (0, None); pointer = nowhere }
 
 -- By the number of an entry its title and first pages; by the number of a page whether it is
--- allocated, its header, and how many slots or version entries it has room for; by place a slot and a
--- version entry.
+-- allocated, its header, and how many slots or version entries it has room for; by place a slot and
+-- a version entry.
 pub record Area : Type 0 where
   pub title : ℕ → Title
   pub firsts : ℕ → Firsts

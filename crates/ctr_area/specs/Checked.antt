@@ -45,8 +45,8 @@ OlderPasses counted pages e at =
     Passes (kept_check (kinds_at (area_of pages) e) counted
     (kept_start (kinds_at (area_of pages) e) at.slot) (pages at.page))
 
--- No check fails: of an entry of the catalog, of a page to which a chain leads, of a slot or a version
--- entry on it.
+-- No check fails: of an entry of the catalog, of a page to which a chain leads, of a slot or a
+-- version entry on it.
 pub record ArePassed (counted : ℕ) (pages : ℕ → List ℕ) : Type 0 where
   pub entries : (e : ℕ) → e < 32
       → Passes (entry_check counted (ENTRY_SIZE * (e % 16)) (pages (1 + e / 16)))

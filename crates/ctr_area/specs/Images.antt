@@ -94,8 +94,8 @@ Numbered = ℕ × Title
 abbrev pub made_by_entry : Numbered → Made
 made_by_entry e = record { id = e.0; schema = record { columns = e.1.columns } }
 
--- The versions of a name that an entry has: the drop, and behind it the table. A transaction that made
--- the table and dropped it has one version, the drop.
+-- The versions of a name that an entry has: the drop, and behind it the table. A transaction that
+-- made the table and dropped it has one version, the drop.
 abbrev pub versions_by_entry : Numbered → List (ℕ × Option Made)
 versions_by_entry e =
     if e.1.dropper == 0 then (e.1.creator, Some (made_by_entry e)) ∷ [] else

@@ -1,5 +1,5 @@
--- When an area and its tables are sound: what every record keeps. The parts are read apart, each from
--- as little as it needs.
+-- When an area and its tables are sound: what every record keeps. The parts are read apart, each
+-- from as little as it needs.
 use Rattle.std.specs.Prelude.{◌≡◌, ◌⊎◌, ℕ, ◌+◌, ◌==◌, ◌<◌, ◌≤◌, ℤ, Bool, true, false, ◌&&◌, ◌||◌, not, List, [], ◌∷◌, ◌++◌, drop, length, map, Option, None, Some, if◌then◌else◌}
 use Rattle.std.specs.List.{AllByRecursion, flat_map, filter}
 use Rattle.ctr_page.specs.ctr_rec.declared.record.SlogItem.{SlogItem}
@@ -180,10 +180,10 @@ is_dropping e (DropOf x f) = f == e
 abbrev pub IsSchemaItem : ℕ → ℕ → List SlogItem → Type 0
 IsSchemaItem x e items = IsAmong (CreateOf x e) items ⊎ IsAmong (DropOf x e) items
 
--- Who made a live entry is committed, or open with an item that says so; and so is who dropped it. An
--- item is of a live entry that says the same. An entry has at most one item of each kind, the creation
--- first, and the items of a name are of one transaction. Of each name at most one entry stands, for
--- each open transaction too, whatever of its latest items is undone.
+-- Who made a live entry is committed, or open with an item that says so; and so is who dropped it.
+-- An item is of a live entry that says the same. An entry has at most one item of each kind, the
+-- creation first, and the items of a name are of one transaction. Of each name at most one entry
+-- stands, for each open transaction too, whatever of its latest items is undone.
 pub record AreNamed (committed : ℕ → Bool) (live : List ℕ) (items : List SlogItem)
     (title : ℕ → Title) : Type 0 where
   pub creators : (e : ℕ) → e < 32 → is_live (title e) ≡ true
@@ -214,8 +214,8 @@ abbrev pub PreviousBelow : ℕ → Option RowVersion → Type 0
 PreviousBelow next None = Unit {0}
 PreviousBelow next (Some v) = v.0 < next
 
--- Every number in slots, version entries and entries of the catalog is below the next; so are those of
--- open and aborted transactions, each from 1 on, once, and in one of the two.
+-- Every number in slots, version entries and entries of the catalog is below the next; so are those
+-- of open and aborted transactions, each from 1 on, once, and in one of the two.
 pub record NumbersBelow (next : ℕ) (xids : List ℕ) (area : Area) : Type 0 where
   pub slots : (e : ℕ) (at : Place) → IsUsedSlot area e at
       → ((area.slot at).head.0 < next) × PreviousBelow next (area.slot at).previous

@@ -14,7 +14,7 @@ use Rattle.ctr_txn.specs.Held.{TxnHeld}
 use Rattle.ctr_asking.specs.declared.asker.Answer.{Answer}
 use Rattle.ctr_asking.specs.declared.asker.Answer.TheVariants.{Refused, Free}
 use Rattle.ctr_asking.specs.Causes.{presence_refused}
-use Rattle.ctr_asking.specs.Asking.{refusal_told, IsOf, IsInCatalog, FindsFor, FindsTable, me_held, sees_for}
+use Rattle.ctr_asking.specs.Asking.{refusal_told, AnswersEntry, IsInCatalog, FindsFor, FindsTable, me_held, sees_for}
 use Rattle.ctr_asking.proofs.Firsts.{passed_first}
 use Rattle.ctr_asking.proofs.Presence.{none_creates, some_uncreated}
 
@@ -24,7 +24,7 @@ by_first (Ok a) xs ys none is = is ∙ passed_first xs ys none
 by_first (Err e) xs ys none is = tt
 
 -- an entry that is told is one that was found
-pub inside_of : (found : Option ℕ) → IfSome found (λ e. e < 32) → (result : Result Answer StoreFault) → IfOk result (IsOf found) → IfOk result IsInCatalog
+pub inside_of : (found : Option ℕ) → IfSome found (λ e. e < 32) → (result : Result Answer StoreFault) → IfOk result (AnswersEntry found) → IfOk result IsInCatalog
 inside_of found few (Err e) of_ = tt
 inside_of found few (Ok (Refused why)) of_ = tt
 inside_of found few (Ok (Free told)) of_ = by_told told (subst (λ o. IfSome o (λ e. e < 32)) (sym of_) few)
@@ -41,7 +41,7 @@ module _ (site : Site) (txn : TxnHeld) (statement : Statement) (name : List ℕ)
 
   -- and it is that of the table
   pub finds_table : (found : Option ℕ) → None ≡ first_of (presence_refused statement found) → ((e : ℕ) → found ≡ Some e → IsEntryFound (sees_for site txn) name site.area e) → (found ≡ None → IsNoneFound (sees_for site txn) name site.area)
-      → (result : Result Answer StoreFault) → IfOk result (IsOf found) → IfOk result (FindsTable site txn statement name)
+      → (result : Result Answer StoreFault) → IfOk result (AnswersEntry found) → IfOk result (FindsTable site txn statement name)
   finds_table found clear one none (Err e) of_ = tt
   finds_table found clear one none (Ok (Refused why)) of_ = tt
   finds_table found clear one none (Ok (Free told)) of_ = subst (λ o. FindsTable site txn statement name (Free o)) (sym of_) (table_of_found found clear one none)

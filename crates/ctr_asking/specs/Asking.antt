@@ -88,9 +88,9 @@ refusal_told (Refused why) = Some why
 refusal_told (Free found) = None
 
 -- where it isn't, this entry is told
-abbrev pub IsOf : Option ℕ → Answer → Type 0
-IsOf found (Refused why) = Unit {0}
-IsOf found (Free told) = told ≡ found
+abbrev pub AnswersEntry : Option ℕ → Answer → Type 0
+AnswersEntry found (Refused why) = Unit {0}
+AnswersEntry found (Free told) = told ≡ found
 
 -- an entry that is told is one of the catalog
 abbrev pub IsInCatalog : Answer → Type 0

@@ -61,7 +61,8 @@ abbrev pub newer_at : List ℕ → Site → SnapshotTaken → Place → Option �
 newer_at commits site snapshot at =
     option_and_then (number_unseen commits site.tables snapshot) (newest_in site at)
 
--- It is that of the key's slot in the table of an entry; none where it has none.
+-- A number is that of the newest committed version in the key's slot, in the table of an entry,
+-- where the snapshot doesn't see it; none where there is no such slot or version.
 abbrev pub IsNewer : List ℕ → Site → SnapshotTaken → ℕ → ℤ → Option ℕ → Type 0
 IsNewer commits site snapshot e key n = (found : Option Place) × FindsKey site.area e key found
     × (n ≡ option_and_then (newer_at commits site snapshot) found)

@@ -20,7 +20,8 @@ columns_behind i bytes = columns_from (field 1 34 bytes - i) (35 + 18 * i) bytes
 abbrev pub bad_by : Statement → Title → Option ℕ
 bad_by statement title = option_and_then (λ cs. bad_value cs statement) (columns_said title)
 
--- the same of an entry of the area
+-- the first bad value of a statement on the table of an entry of the area, none where the entry is
+-- free
 abbrev pub bad_in : Statement → Area → ℕ → Option ℕ
 bad_in statement area e = bad_by statement (area.title e)
 

@@ -5,7 +5,7 @@ ghost use Rattle.ctr_model.specs.State.{same_name};
 ghost use Rattle.ctr_model.specs.Refusals.{fits, bad_from, is_first_column, kind_of, is_int, suits, bad_right_side, is_bad_set, is_assigned, bad_set_after, bad_where, bad_value};
 ghost use Rattle.ctr_page.specs.Columns.{columns_in, name_in};
 ghost use Rattle.ctr_page.specs.declared.table.TheConstants.{ENTRY_SIZE};
-ghost use Rattle.ctr_walk.specs.Columns.{AreNamed};
+ghost use Rattle.ctr_walk.specs.Columns.{HaveNames};
 ghost use Rattle.ctr_asking.specs.Values.{columns_behind};
 
 use ctr_bytes::get_u8;
@@ -32,7 +32,7 @@ fn fits(kind: Kind, value: &Value) -> bool
 // Whether a column of an entry has the name.
 fn is_named(entry: &CatalogEntry, column: u8, name: &Name) -> bool
     requires whole { length entry.now.bytes ≡ ENTRY_SIZE }
-    requires named { AreNamed entry.now.bytes }
+    requires named { HaveNames entry.now.bytes }
     requires there { column < field 1 34 entry.now.bytes }
     ensures { result ≡ same_name name.now (name_in (35 + 18 * column) entry.now.bytes) }
 {
@@ -44,7 +44,7 @@ fn is_named(entry: &CatalogEntry, column: u8, name: &Name) -> bool
 
 fn is_first_column(name: &Name, entry: &CatalogEntry) -> bool
     requires whole { length entry.now.bytes ≡ ENTRY_SIZE }
-    requires named { AreNamed entry.now.bytes }
+    requires named { HaveNames entry.now.bytes }
     ensures { result ≡ is_first_column name.now (columns_in entry.now.bytes) }
 {
     entry.count() > 0 && is_named(entry, 0, name)
@@ -52,7 +52,7 @@ fn is_first_column(name: &Name, entry: &CatalogEntry) -> bool
 
 fn kind_of(name: &Name, entry: &CatalogEntry) -> Option<Kind>
     requires whole { length entry.now.bytes ≡ ENTRY_SIZE }
-    requires named { AreNamed entry.now.bytes }
+    requires named { HaveNames entry.now.bytes }
     ensures { result ≡ kind_of name.now (columns_in entry.now.bytes) }
 {
     let count = entry.count();
@@ -67,7 +67,7 @@ fn kind_of(name: &Name, entry: &CatalogEntry) -> Option<Kind>
 // The position of the first bad value, where these are for the columns from one on.
 fn bad_from(entry: &CatalogEntry, column: u8, values: &[Value]) -> Option<u64>
     requires whole { length entry.now.bytes ≡ ENTRY_SIZE }
-    requires named { AreNamed entry.now.bytes }
+    requires named { HaveNames entry.now.bytes }
     requires there { column ≤ field 1 34 entry.now.bytes }
     ensures { result ≡ bad_from (column + 1) (columns_behind column entry.now.bytes) values.now }
 {
@@ -107,7 +107,7 @@ fn suits(kind: Option<Kind>, value: &Value) -> bool
 
 fn bad_right_side(entry: &CatalogEntry, column: &Name, to: &SetTo) -> bool
     requires whole { length entry.now.bytes ≡ ENTRY_SIZE }
-    requires named { AreNamed entry.now.bytes }
+    requires named { HaveNames entry.now.bytes }
     ensures { result ≡ bad_right_side (columns_in entry.now.bytes) column.now to.now }
 {
     match to {
@@ -127,7 +127,7 @@ fn is_assigned(name: &Name, sets: &[Set]) -> bool
 
 fn is_bad_set(entry: &CatalogEntry, before: &[Set], set: &Set) -> bool
     requires whole { length entry.now.bytes ≡ ENTRY_SIZE }
-    requires named { AreNamed entry.now.bytes }
+    requires named { HaveNames entry.now.bytes }
     ensures { result ≡ is_bad_set (columns_in entry.now.bytes) before.now set.now }
 {
     kind_of(&set.column, entry).is_none()
@@ -139,7 +139,7 @@ fn is_bad_set(entry: &CatalogEntry, before: &[Set], set: &Set) -> bool
 // The position of the first bad assignment.
 fn bad_set(entry: &CatalogEntry, sets: &[Set]) -> Option<u64>
     requires whole { length entry.now.bytes ≡ ENTRY_SIZE }
-    requires named { AreNamed entry.now.bytes }
+    requires named { HaveNames entry.now.bytes }
     ensures { result ≡ bad_set_after (columns_in entry.now.bytes) [] sets.now }
 {
     for i in 0..sets.len() {
@@ -152,7 +152,7 @@ fn bad_set(entry: &CatalogEntry, sets: &[Set]) -> Option<u64>
 
 fn bad_where(entry: &CatalogEntry, at: &KeyIs) -> Option<u64>
     requires whole { length entry.now.bytes ≡ ENTRY_SIZE }
-    requires named { AreNamed entry.now.bytes }
+    requires named { HaveNames entry.now.bytes }
     ensures { result ≡ bad_where (columns_in entry.now.bytes) at.now }
 {
     if is_first_column(&at.column, entry) {
@@ -166,7 +166,7 @@ fn bad_where(entry: &CatalogEntry, at: &KeyIs) -> Option<u64>
 /// for a WHERE on another column than the first.
 pub(crate) fn bad_value(entry: &CatalogEntry, statement: &Statement) -> Option<u64>
     requires whole { length entry.now.bytes ≡ ENTRY_SIZE }
-    requires named { AreNamed entry.now.bytes }
+    requires named { HaveNames entry.now.bytes }
     ensures { result ≡ bad_value (columns_in entry.now.bytes) statement.now }
 {
     match statement {

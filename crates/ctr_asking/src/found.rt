@@ -13,7 +13,7 @@ ghost use Rattle.ctr_record_effects.specs.Standing.{IsDatabaseState};
 ghost use Rattle.ctr_walk.specs.Damage.{ReadsPages};
 ghost use Rattle.ctr_wishes.specs.actions_Sites.{site_of};
 ghost use Rattle.ctr_txn.specs.Held.{txn_of};
-ghost use Rattle.ctr_asking.specs.Asking.{Asking, HasPassed, FindsFor, refusal_told, IsOf};
+ghost use Rattle.ctr_asking.specs.Asking.{Asking, HasPassed, FindsFor, refusal_told, AnswersEntry};
 
 use crate::asker::{Answer, Asker};
 use crate::keys::row_changed;
@@ -39,7 +39,7 @@ fn row_refusal(newer: Option<u64>) -> Option<Refusal>
 // What is answered, by why the act is refused, if it is, and by the table's entry.
 fn answer(why: Option<Refusal>, found: Option<u8>) -> Answer
     ensures told { refusal_told result ≡ why }
-    ensures of { IsOf found result }
+    ensures of { AnswersEntry found result }
 {
     match why {
         None => Answer::Free(found),
@@ -86,7 +86,7 @@ fn ask_row<D: Disk, O: Origin>(
     requires going { store.old.stopped ≡ false }
     requires in_it { txn_of asker.now.s asker.now.txns.now ≡ Some txn.now }
     requires there { entry < 32 }
-    ensures of { IfOk result (IsOf (Some entry)) }
+    ensures of { IfOk result (AnswersEntry (Some entry)) }
     ensures model { WhereSound O.first D.Disk ((k : Asking asker.now (site_of store.old.now)) (statement : Asks) (name : List ℕ) → HasPassed k statement name entry
         → IfOk result (λ a. refusal_told a ≡ first_of (key_refusals k.state asker.now.s k.t name key))) }
     ensures refused { WhereSound O.first D.Disk (IsDatabaseState store.old.now → IfErr result (λ e. e ≡ Fault)) }
@@ -114,7 +114,7 @@ fn ask_table<D: Disk, O: Origin>(
     requires going { store.old.stopped ≡ false }
     requires in_it { txn_of asker.now.s asker.now.txns.now ≡ Some txn.now }
     requires there { entry < 32 }
-    ensures of { IfOk result (IsOf (Some entry)) }
+    ensures of { IfOk result (AnswersEntry (Some entry)) }
     ensures model { WhereSound O.first D.Disk ((k : Asking asker.now (site_of store.old.now)) (name : List ℕ) → HasPassed k statement.now name entry
         → IfOk result (λ a. refusal_told a ≡ first_of (value_refusals statement.now (table_at (view k.state k.t) name) ++ key_refusals k.state asker.now.s k.t name key))) }
     ensures refused { WhereSound O.first D.Disk (IsDatabaseState store.old.now → IfErr result (λ e. e ≡ Fault)) }
@@ -142,7 +142,7 @@ pub(crate) fn ask_found<D: Disk, O: Origin>(
     requires going { store.old.stopped ≡ false }
     requires in_it { txn_of asker.now.s asker.now.txns.now ≡ Some txn.now }
     requires there { IfSome found (λ e. e < 32) }
-    ensures of { IfOk result (IsOf found) }
+    ensures of { IfOk result (AnswersEntry found) }
     ensures model { WhereSound O.first D.Disk ((k : Asking asker.now (site_of store.old.now)) (name : List ℕ) → FindsFor (site_of store.old.now) k.txn name found
         → first_of (presence_refusals statement.now (table_at (view k.state k.t) name) ++ name_refusals k.state asker.now.s k.t statement.now name) ≡ None
         → IfOk result (λ a. refusal_told a ≡ first_of (value_refusals statement.now (table_at (view k.state k.t) name) ++ key_refusals k.state asker.now.s k.t name (key_locked act.now statement.now)))) }

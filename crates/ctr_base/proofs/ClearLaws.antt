@@ -19,7 +19,7 @@ use Rattle.ctr_redo.specs.Images.{home_in, stored_in, IsSound, CanCount}
 use Rattle.ctr_redo.proofs.ImageLaws.{KeepsLogs, pages_apart, kept_same, holds_same, begins_same, next_same, state_with}
 use Rattle.ctr_redo.proofs.GrowthLaws.{counted_page, blank_home}
 use Rattle.ctr_base.specs.Homes.{HasSameHome}
-use Rattle.ctr_base.specs.Extent.{KeepsPages, AreCleared}
+use Rattle.ctr_base.specs.Extent.{KeepsPageBytes, AreCleared}
 use Rattle.ctr_base.proofs.ExtentLaws.{cleared_blank, cleared_long}
 
 -- a home within a front that is the same
@@ -30,7 +30,7 @@ same_home n place a b same inside =
     ∙ drop-take place 4128 b
 
 -- the homes of a page before those that are cleared hold what they held
-pub held_same : (n q : ℕ) (old new : Image) → KeepsPages n old new → 8256 * q + 8256 ≤ n → (h : Home) → held_at (Page q) h (content Pages new) ≡ held_at (Page q) h (content Pages old)
+pub held_same : (n q : ℕ) (old new : Image) → KeepsPageBytes n old new → 8256 * q + 8256 ≤ n → (h : Home) → held_at (Page q) h (content Pages new) ≡ held_at (Page q) h (content Pages old)
 held_same n q old new keeps inside First = ap (opens_to (Page q)) (same_home n (8256 * q) new.pages old.pages keeps.front (omega (arith, inside)))
 held_same n q old new keeps inside Second = ap (opens_to (Page q)) (same_home n (8256 * q + 4128) new.pages old.pages keeps.front (omega (arith, inside)))
 
@@ -45,18 +45,18 @@ stays_home p old new homes =
           ∙ ap (λ o. home_place (Page p) (value_home (stamp_in first) (stamp_in o))) (homes Second);
     }
 
-pub value_same : (n q : ℕ) (old new : Image) → KeepsPages n old new → 8256 * q + 8256 ≤ n → value_of (Page q) new ≡ value_of (Page q) old
+pub value_same : (n q : ℕ) (old new : Image) → KeepsPageBytes n old new → 8256 * q + 8256 ≤ n → value_of (Page q) new ≡ value_of (Page q) old
 value_same n q old new keeps inside = (stays_home q old new (held_same n q old new keeps inside)).value
 
 -- the counted pages at home are as they were
-pub home_cleared : (counted : ℕ) (old new : Image) → KeepsPages (8256 * counted) old new → (q : ℕ) → home_in counted new q ≡ home_in counted old q
+pub home_cleared : (counted : ℕ) (old new : Image) → KeepsPageBytes (8256 * counted) old new → (q : ℕ) → home_in counted new q ≡ home_in counted old q
 home_cleared counted old new keeps q =
     ⊎_elim
     (λ inside. counted_page counted q new (value_of (Page q) old) inside (value_same (8256 * counted) q old new keeps (omega (arith, inside))) ∙ sym (counted_page counted q old (value_of (Page q) old) inside refl))
     (λ outside. blank_home counted q new outside ∙ sym (blank_home counted q old outside))
     (cases_lt q counted)
 
-module _ (root : Root) (old new : Image) (sound : IsSound root old) (keeps : KeepsPages (8256 * root.pages) old new) where
+module _ (root : Root) (old new : Image) (sound : IsSound root old) (keeps : KeepsPageBytes (8256 * root.pages) old new) where
   logs : KeepsLogs old new
   logs = pages_apart old new keeps.others
 
@@ -79,7 +79,7 @@ module _ (root : Root) (old new : Image) (sound : IsSound root old) (keeps : Kee
   state_cleared = state_with root (home_in root.pages old) old new logs home_same
 
 -- what is cleared stands behind the rest
-pub cleared_keeps : (from to : ℕ) (old new : Image) → from ≤ to → 8256 * from ≤ length old.pages → AreCleared from to old new → KeepsPages (8256 * from) old new
+pub cleared_keeps : (from to : ℕ) (old new : Image) → from ≤ to → 8256 * from ≤ length old.pages → AreCleared from to old new → KeepsPageBytes (8256 * from) old new
 unfolding zero_bytes
 cleared_keeps from to old new order inside was =
     let kept = take (8256 * from) old.pages in

@@ -8,9 +8,9 @@ use Rattle.ctr_disk.proofs.Torn.{same_but}
 use Rattle.ctr_redo.specs.home_Block_TheVariants.{Page}
 use Rattle.ctr_redo.specs.home_Blocks.{zero_bytes, opens_to, greater, value_of}
 use Rattle.ctr_redo.proofs.home_HomeLemmas.{opened_shut}
-use Rattle.ctr_base.specs.Extent.{KeepsPages, AreCleared}
+use Rattle.ctr_base.specs.Extent.{KeepsPageBytes, AreCleared}
 
-pub keeps_start : (n : ℕ) (old c : Image) → c ≡ old → KeepsPages n old c
+pub keeps_start : (n : ℕ) (old c : Image) → c ≡ old → KeepsPageBytes n old c
 keeps_start n old c is = record {
   others = is ∙ ap (λ (b : List ℕ). record old { pages = b }) (sym (ap (λ (i : Image). i.pages) is));
   front = ap (λ (i : Image). take n i.pages) is;
@@ -27,7 +27,7 @@ front_of n at l rest low inside =
     ∙ take-append-add (take n l) (drop n l) (at - n) in
     ap (λ (x : List ℕ). take n (x ++ rest)) cut ∙ ap (take n) (append_assoc (take n l) (take (at - n) (drop n l)) rest) ∙ take_at (take n l) (take (at - n) (drop n l) ++ rest) n long
 
-pub keeps_torn : (n at k : ℕ) (old mid new : Image) → n ≤ length old.pages → n ≤ at → KeepsPages n old mid → TornImage Pages at k mid new → KeepsPages n old new
+pub keeps_torn : (n at k : ℕ) (old mid new : Image) → n ≤ length old.pages → n ≤ at → KeepsPageBytes n old mid → TornImage Pages at k mid new → KeepsPageBytes n old new
 keeps_torn n at k old mid new inside low keeps torn =
     let longer = keeps.no_shorter in
     let grown = torn.torn.no_shorter in

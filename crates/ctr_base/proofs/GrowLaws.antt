@@ -26,7 +26,7 @@ use Rattle.ctr_redo.proofs.GrowthLaws.{home_counted, folds_counted, sound_behind
 use Rattle.ctr_base.specs.declared.base.Base.{Base}
 use Rattle.ctr_base.specs.Base.{stored_of, waiting_of, now_of, home_of, MaySave, MayPut, IsQuiet, StandsWell, StandsQuiet}
 use Rattle.ctr_base.specs.Homes.{HomesSince}
-use Rattle.ctr_base.specs.Extent.{KeepsPages}
+use Rattle.ctr_base.specs.Extent.{KeepsPageBytes}
 use Rattle.ctr_base.specs.Growth.{IsGrowing, HasGrown, grown_root, GrowsBase, GrowsOver, AreBlank}
 use Rattle.ctr_base.specs.BaseLaws.{goes_on_same, log_content, writes_same}
 use Rattle.ctr_base.proofs.ExtentLaws.{cleared_blank, cleared_long}
@@ -108,7 +108,7 @@ module _ {D O : Type 0} (g : Ghosts D) where
     order : a.root.pages ≤ more.pages
     order = let m = grown_more a.root.pages few in omega (arith, m)
 
-    keeps : KeepsPages (8256 * a.root.pages) old mid
+    keeps : KeepsPageBytes (8256 * a.root.pages) old mid
     keeps = cleared_keeps a.root.pages more.pages old mid order stands.size has.1
 
     others : OthersStay RootBlock mid new

@@ -19,7 +19,7 @@ use Rattle.ctr_redo.specs.Images.{home_in}
 use Rattle.ctr_base.specs.declared.base.Base.{Base}
 use Rattle.ctr_base.specs.Homes.{HasSameHome, IsWrittenSince, IsSince, HomesSince}
 use Rattle.ctr_base.specs.Base.{StandsQuiet, FindsNumber}
-use Rattle.ctr_base.specs.Extent.{KeepsPages}
+use Rattle.ctr_base.specs.Extent.{KeepsPageBytes}
 use Rattle.ctr_base.proofs.RootLaws.{one_root}
 use Rattle.ctr_base.proofs.ClearLaws.{held_same, stays_home}
 
@@ -73,7 +73,7 @@ since_written first counted p stamp body old new inside above others is since = 
         })
 
 -- behind a growth
-pub since_grown : (first : Image) (from to : ℕ) (old mid new : Image) → from ≤ to → KeepsPages (8256 * from) old mid → OthersStay RootBlock mid new → HomesSince first from old → HomesSince first to new
+pub since_grown : (first : Image) (from to : ℕ) (old mid new : Image) → from ≤ to → KeepsPageBytes (8256 * from) old mid → OthersStay RootBlock mid new → HomesSince first from old → HomesSince first to new
 since_grown first from to old mid new order keeps others since = record {
   more = λ r says. let low = since.more r says in omega (arith, low, order);
   homes = λ r says p inside.

@@ -29,7 +29,7 @@ use Rattle.ctr_redo.specs.ctr_pool.Below.{HoldsStill}
 use Rattle.ctr_redo.specs.Overlaid.{overlaid, touches}
 use Rattle.ctr_redo.specs.States.{State, Stored, state_of, steps, with_more, next_of, AreHome}
 use Rattle.ctr_redo.specs.Fitting.{EachFits, FitsBehind, MayFollow}
-use Rattle.ctr_redo.specs.Images.{records_in, stored_in, IsSound, FoldsFront, IsLogFile, named_log, other_log, newer_root, MayBegin, CanDrop}
+use Rattle.ctr_redo.specs.Images.{records_in, stored_in, IsSound, FoldsFront, IsLogFile, named_log, other_log, newer_root, MayBeginSecond, CanDropOlder}
 use Rattle.ctr_redo.proofs.PageLaws.{overlaid-append, stays_out}
 use Rattle.ctr_redo.proofs.StateLaws.{tables-push, state_more}
 use Rattle.ctr_redo.proofs.FitLaws.{tables_behind, tables_behind_is, each_append, each_behind, begins_append, newer_out, two_newer, last_written, named_kept, choose_yes}
@@ -65,7 +65,7 @@ module _ {D O : Type 0} (g : Ghosts D) where
   one_written : (a : Base D O) → IsQuiet g a → a.log.older ≡ false → WritesOne a.root.file a.root.first a.log (g.reads a.disk)
   one_written a quiet one = subst (λ (o : Bool). WritesBy o a.root.file a.root.first a.log (g.reads a.disk)) one quiet.writes.by
 
-  may_begin : (a : Base D O) (bytes : List ℕ) → IsQuiet g a → a.log.older ≡ false → IsCheckpoint g a bytes → MayBegin a.root bytes (g.reads a.disk)
+  may_begin : (a : Base D O) (bytes : List ℕ) → IsQuiet g a → a.log.older ≡ false → IsCheckpoint g a bytes → MayBeginSecond a.root bytes (g.reads a.disk)
   may_begin a bytes quiet one is =
       let image = g.reads a.disk in
       let kept = kept_log a.root.file a.root.first image in
@@ -116,7 +116,7 @@ module _ {D O : Type 0} (g : Ghosts D) where
     abbrev r : Record
     r = record_in bytes
 
-    may : MayBegin a.root bytes old
+    may : MayBeginSecond a.root bytes old
     may = may_begin a bytes quiet one is
 
     by_two : WritesTwo a.root.file a.root.first b.log new
@@ -275,7 +275,7 @@ module _ {D O : Type 0} (g : Ghosts D) where
         ap (λ (n : ℕ). take n (now_of g a).records) older_len ∙ ap (λ (l : List Record). take (length (records_in xs)) l) now_both ∙ take_at (records_in xs) (records_in ys ++ waiting_of a) (length (records_in xs)) refl in
         ap (λ (l : List Record). overlaid q a.root.first l (home_of g a q)) (sym front) ∙ home q
 
-    can : CanDrop a.root start was
+    can : CanDropOlder a.root start was
     can = record {
       two = two_newer a.root.file a.root.first was two.bs two.cs two.holds;
       start_is = start_is;

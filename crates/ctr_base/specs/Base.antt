@@ -89,7 +89,8 @@ pub record MovesBase {D O : Type 0} (g : Ghosts D) (a b : Base D O) : Type 0 whe
       ≡ overlaid q a.root.first (now_of g a).records (home_of g a q)
 
 -- From one moment of a disk to another its clock didn't go back, and no call went past the last
--- place, but where the log ends so far on that its file has nearly as many bytes as a file can have.
+-- place, but where the log ends so far on that its file has nearly as many bytes as a file can
+-- have.
 pub record GoesOnTo {D : Type 0} (g : Ghosts D) (old new : D) (end : ℕ) : Type 0 where
   pub later : g.moment_of old ≤ g.moment_of new
   pub stray : (g.strays_of new ≡ g.strays_of old) ⊎ (2 ^ 62 + 2 ^ 61 ≤ end)

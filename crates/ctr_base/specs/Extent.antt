@@ -6,7 +6,7 @@ use Rattle.ctr_redo.specs.home_Blocks.{zero_bytes}
 
 -- The first bytes of the file of pages are as they were, so many of them, and the other files; and
 -- it isn't shorter.
-pub record KeepsPages (n : ℕ) (old new : Image) : Type 0 where
+pub record KeepsPageBytes (n : ℕ) (old new : Image) : Type 0 where
   pub others : OtherFilesStay Pages old new
   pub front : take n new.pages ≡ take n old.pages
   pub no_shorter : length old.pages ≤ length new.pages

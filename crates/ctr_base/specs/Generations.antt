@@ -14,8 +14,8 @@ use Rattle.ctr_redo.specs.Fitting.{FitsBehind}
 use Rattle.ctr_base.specs.declared.base.Base.{Base}
 use Rattle.ctr_base.specs.Base.{stored_of, now_of, home_of, IsSoundImage, MayPut, StandsQuiet}
 
--- Bytes are a Checkpoint that can begin a generation behind what stands on the disk: they fit there,
--- and leave the tables as they are.
+-- Bytes are a Checkpoint that can begin a generation behind what stands on the disk: they fit
+-- there, and leave the tables as they are.
 pub record IsCheckpoint {D O : Type 0} (g : Ghosts D) (b : Base D O) (bytes : List ℕ) : Type 0 where
   pub fits : FitsBehind b.root.pages (tables_of (stored_of g b).records) bytes
   pub number : field 1 0 bytes ≡ 1
@@ -32,14 +32,15 @@ pub record KeepsFold {D O : Type 0} (g : Ghosts D) (a b : Base D O) : Type 0 whe
   pub pages : (q : ℕ) → overlaid q b.root.first (now_of g b).records (home_of g b q)
       ≡ overlaid q a.root.first (now_of g a).records (home_of g a q)
 
--- So it is where the first image was sound; and it stands over the same pages, of which may be saved
--- what might be.
+-- So it is where the first image was sound; and it stands over the same pages, of which may be
+-- saved what might be.
 pub record SwitchesOver {D O : Type 0} (first : Image) (g : Ghosts D) (a b : Base D O) : Type 0 where
   pub base : IsSoundImage first → KeepsFold g a b
   pub rests : StandsQuiet first g b
   pub holds : HoldsStill (home_of g) (MayPut first g) a b
 
--- Each page's home has the records of the older generation: those below the first of the current one.
+-- Each page's home has the records of the older generation: those below the first of the current
+-- one.
 abbrev pub OlderIsHome : {D O : Type 0} → Ghosts D → Base D O → Type 0
 OlderIsHome g b =
     AreHome b.root.first (take (b.log.start - b.root.first) (now_of g b).records) (home_of g b)

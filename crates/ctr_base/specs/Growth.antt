@@ -14,12 +14,12 @@ use Rattle.ctr_base.specs.declared.base.Base.{Base}
 use Rattle.ctr_base.specs.Base.{stored_of, now_of, home_of, MayPut, StandsQuiet}
 use Rattle.ctr_redo.specs.ctr_pool.Below.{HoldsStill}
 use Rattle.ctr_disk.specs.declared.fault.StoreFault.{StoreFault}
-use Rattle.ctr_base.specs.Extent.{KeepsPages, AreCleared}
+use Rattle.ctr_base.specs.Extent.{KeepsPageBytes, AreCleared}
 
 -- Homes behind the counted pages are being cleared, or they are, and the root has its old value or
 -- the one that counts them.
 abbrev pub IsGrowing : ℕ → Root → Image → Image → Type 0
-IsGrowing from more old new = KeepsPages (8256 * from) old new
+IsGrowing from more old new = KeepsPageBytes (8256 * from) old new
     ⊎ ((mid : Image) × AreCleared from more.pages old mid × IsOldOrNewValue RootBlock (root_block more) mid new)
 
 -- The pages by which a file grows are cleared, and then the root counts them.

@@ -7,7 +7,7 @@ ghost use Rattle.ctr_redo.specs.home_Roots.{IsRoot};
 ghost use Rattle.ctr_redo.specs.States.{state_of};
 ghost use Rattle.ctr_redo.specs.Images.{stored_in, IsSound, CanCount};
 ghost use Rattle.ctr_base.specs.declared.growing.TheConstants.{MOST_PAGES};
-ghost use Rattle.ctr_base.specs.Extent.{KeepsPages, AreCleared};
+ghost use Rattle.ctr_base.specs.Extent.{KeepsPageBytes, AreCleared};
 
 use ctr_disk::{Disk, Failed};
 use ctr_types::File;
@@ -18,7 +18,7 @@ pub fn clear_pages<D: Disk>(disk: &mut D, from: u32, to: u32) -> Result<(), Fail
     requires order { from ≤ to }
     requires low { to ≤ MOST_PAGES }
     requires long { IsTrue D.tells → 8256 * from ≤ length (D.reads disk.old).pages }
-    ensures any_moment { IsSettled D.Disk disk.old → LeavesOnly D.Disk disk.old disk.new (KeepsPages (8256 * from) (D.reads disk.old)) }
+    ensures any_moment { IsSettled D.Disk disk.old → LeavesOnly D.Disk disk.old disk.new (KeepsPageBytes (8256 * from) (D.reads disk.old)) }
     ensures cleared { WhereTold D.Disk (OnOk result (AreCleared from to (D.reads disk.old) (D.reads disk.new))) }
     ensures durable { OnOk result (IsDurable D.Disk disk.new) }
     ensures counts { Counts D.Disk disk.old disk.new result }
@@ -34,8 +34,8 @@ pub fn clear_pages<D: Disk>(disk: &mut D, from: u32, to: u32) -> Result<(), Fail
 /// While pages behind the counted ones are cleared, whatever stands there then, an image stays sound and folds to the same
 /// state. Once they are, a root that says the rest as before can count them.
 pub fn clearing_leaves_the_state()
-    ensures same { (root : Root) (old new : Image) → IsSound root old → KeepsPages (8256 * root.pages) old new → IsSound root new × (state_of (stored_in root new) ≡ state_of (stored_in root old)) }
-    ensures keeps { (from to : ℕ) (old new : Image) → from ≤ to → 8256 * from ≤ length old.pages → AreCleared from to old new → KeepsPages (8256 * from) old new }
+    ensures same { (root : Root) (old new : Image) → IsSound root old → KeepsPageBytes (8256 * root.pages) old new → IsSound root new × (state_of (stored_in root new) ≡ state_of (stored_in root old)) }
+    ensures keeps { (from to : ℕ) (old new : Image) → from ≤ to → 8256 * from ≤ length old.pages → AreCleared from to old new → KeepsPageBytes (8256 * from) old new }
     ensures counts { (root more : Root) (old new : Image) → IsSound root old → IsRoot more → more.file ≡ root.file → more.first ≡ root.first → root.pages ≤ more.pages
         → AreCleared root.pages more.pages old new → CanCount root more new }
 {}

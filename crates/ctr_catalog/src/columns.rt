@@ -9,7 +9,7 @@ ghost use Rattle.ctr_names.specs.page_Columns.{name_in, columns_in};
 ghost use Rattle.ctr_alloc.specs.record_effects_States.{pages_in, area_in};
 ghost use Rattle.ctr_alloc.specs.walk_Damage.{damage_told, searched, EndsOnPage, EndsTold, ReadsPages};
 ghost use Rattle.ctr_catalog.specs.Finding.{checks_at};
-ghost use Rattle.ctr_alloc.specs.walk_Columns.{AreNamed};
+ghost use Rattle.ctr_alloc.specs.walk_Columns.{HaveNames};
 ghost use Rattle.ctr_catalog.specs.Columns.{columns_there, GivesColumns, ColumnsSaid, EndsChecked, as_given};
 
 use ctr_alloc::{Origin, SearchFault, Store, an_entry_has_columns, catalog_page, found_on, tell};
@@ -54,7 +54,7 @@ fn name_at(alloc: Global, at: usize, bytes: &[u8]) -> Result<Name, OutOfMemory>
 /// The columns that the bytes of an entry say.
 fn columns_of(alloc: Global, entry: &CatalogEntry) -> Result<List<Column>, OutOfMemory>
     requires whole { length entry.now.bytes ≡ ENTRY_SIZE }
-    requires named { AreNamed entry.now.bytes }
+    requires named { HaveNames entry.now.bytes }
     ensures { IfOk result (λ columns. columns ≡ columns_in entry.now.bytes) }
 {
     let mut columns = List::new(alloc);

@@ -21,7 +21,7 @@ waits_above low tables x = is_committed_in tables x && not (nat_lt x low)
 
 -- What the cleaner knows of a slot: whether it is used; and if so its key, whose its head is and
 -- whether that is a tombstone, whose its previous version is, and whether a pointer leads on.
-pub record Tells (slot : Slot) (f : SlotFacts) : Type 0 where
+pub record TellsSlot (slot : Slot) (f : SlotFacts) : Type 0 where
   pub used : slot.used ≡ f.used
   pub key : f.used ≡ true → slot.key ≡ f.key
   pub head : f.used ≡ true → slot.head.0 ≡ f.head

@@ -19,8 +19,8 @@ abbrev pub IsFirstFrom : (ℕ → Bool) → Area → Place → Place → Type 0
 IsFirstFrom passes area from q =
     IsFirstPassing passes area.older q (places_along reach area.older from)
 
--- This one is the first within reach of a chain whose version passes, and another one is behind it;
--- or no such one has another behind it.
+-- A place is the first within reach of a chain whose version passes, and another one is behind it;
+-- or no such place has another behind it.
 abbrev pub IsCutAlong : (ℕ → Bool) → Area → Place → Option Place → Type 0
 IsCutAlong passes area from (Some q) =
     IsFirstFrom passes area from q × ((area.older q).pointer.page ≢ 0)

@@ -27,8 +27,8 @@ pub record HasNoStep (low : ℕ) (locks : Locks) (s : State) : Type 0 where
   pub aborted : (place : ℕ) → HasNoForget place s.tables
   pub free : HasNoFree 0 s.tables
 
--- A step does the action: one is written for it, what it looks for along a chain is within reach, and
--- what it frees isn't of a commit that somebody may not see yet.
+-- A step does the action: one is written for it, what it looks for along a chain is within reach,
+-- and what it frees isn't of a commit that somebody may not see yet.
 abbrev pub HasStep : ℕ → State → Action → Type 0
 HasStep low s (Cuts passes e at q) = IsFirstFrom passes (area_in s) ((area_in s).slot at).pointer q
 HasStep low s (FreesOlder e q) =

@@ -7,7 +7,7 @@ ghost use Rattle.ctr_meta.specs.Tables.{is_in};
 ghost use Rattle.ctr_area.specs.Areas.{Slot};
 ghost use Rattle.ctr_area.specs.Reading.{slot_said};
 ghost use Rattle.ctr_pvs.specs.Slots.{slot_lent};
-ghost use Rattle.ctr_clean.specs.Choosing.{passes_below, waits_above, Tells, IsTrimOf, IsTask};
+ghost use Rattle.ctr_clean.specs.Choosing.{passes_below, waits_above, TellsSlot, IsTrimOf, IsTask};
 
 use ctr_dead::TrimWay;
 use ctr_meta::Meta;
@@ -52,7 +52,7 @@ fn whose(part: &Option<LentPart>) -> Option<Xid>
 
 /// What there is to know of a slot that is lent.
 pub fn facts_of(slot: &LentSlot) -> SlotFacts
-    ensures { (columns : List Column) → Tells (slot_said columns (slot_lent slot.now)) result }
+    ensures { (columns : List Column) → TellsSlot (slot_said columns (slot_lent slot.now)) result }
 {
     SlotFacts {
         used: slot.used == 1,
@@ -82,7 +82,7 @@ pub(crate) fn waits(meta: &Meta, low: Xid, x: Xid) -> bool
 /// sees goes where nothing is behind it.
 fn trim_of(meta: &Meta, low: Xid, slot: &SlotFacts) -> Option<TrimWay>
     requires used { slot.now.used ≡ true }
-    ensures { (there : Slot) → Tells there slot.now → IsTrimOf (passes_below low meta.now.tables) there result }
+    ensures { (there : Slot) → TellsSlot there slot.now → IsTrimOf (passes_below low meta.now.tables) there result }
 {
     if passes(meta, low, slot.head) {
         if slot.leads || slot.previous.is_some() {
@@ -111,7 +111,7 @@ pub(crate) fn is_rolled_back(meta: &Meta, x: Xid) -> bool
 /// may be.
 pub fn task_of(meta: &Meta, low: Xid, slot: &SlotFacts) -> SlotTask
     requires used { slot.now.used ≡ true }
-    ensures { (there : Slot) → Tells there slot.now → IsTask (passes_below low meta.now.tables) meta.now.tables there result }
+    ensures { (there : Slot) → TellsSlot there slot.now → IsTask (passes_below low meta.now.tables) meta.now.tables there result }
 {
     if is_rolled_back(meta, slot.head) {
         return SlotTask::Revert;

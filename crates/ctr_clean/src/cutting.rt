@@ -14,7 +14,7 @@ ghost use Rattle.ctr_pvs.specs.walk_OneRecord.{HasRoomForOne};
 ghost use Rattle.ctr_pvs.specs.walk_Damage.{ReadsPages};
 ghost use Rattle.ctr_dead.specs.page_turns_Rooms.{AddsItems};
 ghost use Rattle.ctr_dead.specs.page_turns_Turns.{Turns};
-ghost use Rattle.ctr_clean.specs.Choosing.{passes_below, Tells};
+ghost use Rattle.ctr_clean.specs.Choosing.{passes_below, TellsSlot};
 ghost use Rattle.ctr_clean.specs.Steps.{next_stepped};
 ghost use Rattle.ctr_clean.specs.Cutting.{IsCutAlong, OwnPasses, GoesBehind, CutsBehind, CutsAt};
 
@@ -78,7 +78,7 @@ fn cut_along<D: Disk, O: Origin>(
 /// Whether a used slot has itself a version that everybody sees.
 fn own_passes(meta: &Meta, low: Xid, facts: &SlotFacts) -> bool
     requires used { facts.now.used ≡ true }
-    ensures { (there : Slot) → Tells there facts.now → OwnPasses (passes_below low meta.now.tables) there result }
+    ensures { (there : Slot) → TellsSlot there facts.now → OwnPasses (passes_below low meta.now.tables) there result }
 {
     if passes(meta, low, facts.head) {
         return true;
@@ -92,7 +92,7 @@ fn own_passes(meta: &Meta, low: Xid, facts: &SlotFacts) -> bool
 /// Whether the chain of a slot is to be cut behind a version entry, by what is known of the slot: nobody has locked its row, and neither of its own
 /// versions is one that everybody sees.
 fn goes_behind(meta: &Meta, locks: &KeyLocks, low: Xid, entry: u8, facts: &SlotFacts) -> bool
-    ensures { (s : State) (at : PlaceOf) → meta.now.tables ≡ s.tables → Tells ((area_in s).slot at) facts.now → GoesBehind low locks.now entry at s result }
+    ensures { (s : State) (at : PlaceOf) → meta.now.tables ≡ s.tables → TellsSlot ((area_in s).slot at) facts.now → GoesBehind low locks.now entry at s result }
 {
     if !facts.used || locks.locked(entry, Key::new(facts.key)).is_some() {
         return false;

@@ -12,7 +12,7 @@ ghost use Rattle.ctr_pvs.specs.walk_OneRecord.{HasRoomForOne};
 ghost use Rattle.ctr_pvs.specs.walk_Damage.{ReadsPages};
 ghost use Rattle.ctr_dead.specs.page_turns_Turns.{Turns};
 ghost use Rattle.ctr_dead.specs.page_turns_Rooms.{AddsItems};
-ghost use Rattle.ctr_clean.specs.Choosing.{Tells};
+ghost use Rattle.ctr_clean.specs.Choosing.{TellsSlot};
 ghost use Rattle.ctr_clean.specs.Steps.{GoesAt, RevertsAt, next_stepped};
 
 use crate::choosing::{SlotFacts, is_rolled_back};
@@ -28,7 +28,7 @@ use ctr_pvs::{Origin, Store};
 
 /// Whether the head of a slot is to be taken, by what is known of it.
 fn goes(meta: &Meta, locks: &KeyLocks, entry: u8, facts: &SlotFacts) -> bool
-    ensures { (s : State) (at : PlaceOf) → meta.now.tables ≡ s.tables → Tells ((area_in s).slot at) facts.now → GoesAt locks.now entry at s result }
+    ensures { (s : State) (at : PlaceOf) → meta.now.tables ≡ s.tables → TellsSlot ((area_in s).slot at) facts.now → GoesAt locks.now entry at s result }
 {
     if !facts.used || locks.locked(entry, Key::new(facts.key)).is_some() {
         return false;

@@ -13,7 +13,7 @@ ghost use Rattle.ctr_pvs.specs.walk_OneRecord.{HasRoomForOne};
 ghost use Rattle.ctr_pvs.specs.walk_Damage.{ReadsPages};
 ghost use Rattle.ctr_dead.specs.page_turns_Turns.{Turns};
 ghost use Rattle.ctr_dead.specs.page_turns_Rooms.{AddsItems};
-ghost use Rattle.ctr_clean.specs.Choosing.{Tells};
+ghost use Rattle.ctr_clean.specs.Choosing.{TellsSlot};
 ghost use Rattle.ctr_clean.specs.Steps.{TaskAt, CleansSlot, next_stepped};
 
 use crate::choosing::{SlotFacts, SlotTask, task_of};
@@ -30,7 +30,7 @@ use ctr_types::Xid;
 
 /// What is to be done with a slot, by what is known of it.
 fn task_at(meta: &Meta, locks: &KeyLocks, low: Xid, entry: u8, facts: &SlotFacts) -> SlotTask
-    ensures { (s : State) (at : PlaceOf) → meta.now.tables ≡ s.tables → Tells ((area_in s).slot at) facts.now → TaskAt low locks.now entry at s result }
+    ensures { (s : State) (at : PlaceOf) → meta.now.tables ≡ s.tables → TellsSlot ((area_in s).slot at) facts.now → TaskAt low locks.now entry at s result }
 {
     if !facts.used || locks.locked(entry, Key::new(facts.key)).is_some() {
         return SlotTask::Nothing;

@@ -7,7 +7,7 @@ ghost use Rattle.ctr_area.specs.Sound.{IsAmong};
 ghost use Rattle.ctr_record_effects.specs.States.{area_in};
 ghost use Rattle.ctr_record_effects.specs.Standing.{IsDatabaseState};
 ghost use Rattle.ctr_pvs.specs.walk_Damage.{ReadsPages};
-ghost use Rattle.ctr_clean.specs.Choosing.{Tells};
+ghost use Rattle.ctr_clean.specs.Choosing.{TellsSlot};
 
 use crate::choosing::{SlotFacts, facts_of};
 use ctr_dead::a_row_is_read_without_damage;
@@ -31,7 +31,7 @@ pub fn look_at<D: Disk, O: Origin>(
 ) -> Result<SlotFacts, StoreFault>
     requires going { store.old.stopped ≡ false }
     requires counted { place.page < store.old.now.counted }
-    ensures tells { WhereSound O.first D.Disk (IfOk result (Tells ((area_in store.old.now).slot place))) }
+    ensures tells { WhereSound O.first D.Disk (IfOk result (TellsSlot ((area_in store.old.now).slot place))) }
     ensures leaves { ReadsPages O.first D.Disk store.old store.new result }
     ensures refused { (e : ℕ) → WhereSound O.first D.Disk (IsDatabaseState store.old.now → IsAmong place (slot_places (area_in store.old.now) e) → IfErr result (λ f. f ≡ Fault)) }
 {

@@ -22,7 +22,7 @@ use Rattle.ctr_emptying.specs.page_turns_Acts.{ActsBy}
 use Rattle.ctr_locks.specs.Held.{session_locks, IsHolder}
 use Rattle.ctr_emptying.specs.clean_SlotFacts.{SlotFacts}
 use Rattle.ctr_emptying.specs.clean_OlderFacts.{OlderFacts}
-use Rattle.ctr_emptying.specs.clean_Choosing.{passes_below, Tells}
+use Rattle.ctr_emptying.specs.clean_Choosing.{passes_below, TellsSlot}
 use Rattle.ctr_emptying.specs.clean_Cutting.{CutsAt, HasNoCut}
 use Rattle.ctr_emptying.specs.clean_Lists.{ForgetsAt, ReclaimsOne, HasNoForget, HasNoFree}
 use Rattle.ctr_emptying.specs.clean_Older.{IsSaid, FreesAt}
@@ -44,8 +44,8 @@ use Rattle.ctr_cleaner.specs.declared.done.CleanTurn.TheVariants as turn
 use Rattle.ctr_cleaner.specs.declared.done.Logged.{Logged}
 use Rattle.ctr_cleaner.specs.declared.done.Logged.TheVariants.{Cleaned, Unlinked, Reclaimed}
 use Rattle.ctr_cleaner.specs.Finding.{IsFreeRow, HasNothingAt, HasNothingInSlot}
-use Rattle.ctr_cleaner.specs.Turning.{Heeded, heeding, IsToldBy, IsOfOpenRow, CleansFreely, TurnsAt, next_cleaned, LeavesRoomBy, IsWithin}
-use Rattle.ctr_cleaner.specs.Parts.{Done, next_done, LeavesRoom, IsLetGo, turn_logged, DidAt, HasNoRowsToGo, HasNoEntryToFree, KeySaid, OpenSaid, OpenOlderSaid, done_step, done_reclaim, done_freed, done_unlinked}
+use Rattle.ctr_cleaner.specs.Turning.{Heeded, heeding, IsToldByTurn, IsOfOpenRow, CleansFreely, TurnsAt, next_cleaned, LeavesRoomBy, IsTurnWithin}
+use Rattle.ctr_cleaner.specs.Parts.{Done, next_done, PartLeavesRoom, IsLetGo, turn_logged, DidAt, HasNoRowsToGo, HasNoEntryToFree, KeyLockSaid, OpenSaid, OpenOlderSaid, done_step, done_reclaim, done_freed, done_unlinked}
 
 -- everything may be done in a table that is dead
 abbrev pub everything : MayEmpty
@@ -89,7 +89,7 @@ pub err_told : (P : StoreFault → Type 0) (r told : Result Done StoreFault) (e 
 err_told P r told e is same holds = subst (λ (q : Result Done StoreFault). IfErr q P) (sym is ∙ same) holds
 
 -- a step is one of the cleaner's, whose row isn't locked by the name of its table either
-freely : (low : ℕ) (locks : Locks) (spared : ℕ) (may : MayEmpty) (x : Position) (turn : CleanTurn) (s t : State) (one : CleansOne low locks s t) (a : Action) → IsToldBy turn a → one.action ≡ a → IsOfOpenRow locks a (site_of s)
+freely : (low : ℕ) (locks : Locks) (spared : ℕ) (may : MayEmpty) (x : Position) (turn : CleanTurn) (s t : State) (one : CleansOne low locks s t) (a : Action) → IsToldByTurn turn a → one.action ≡ a → IsOfOpenRow locks a (site_of s)
     → ((p : ℕ) → a ≡ Reclaims p → IsAmong (FreeOf p) (drop spared s.tables.items)) → ((e : ℕ) (title : Title) (left : Area) → a ≡ FreesEntry e title left → may.free ≡ true)
     → (TakesPage a x → ⊥) → CleansFreely (heeding low locks spared may) x turn s t
 freely low locks spared may x turn s t one a told is free spares frees stays = record {
@@ -204,13 +204,13 @@ is_used true is = refl
 is_used false is = absurd (false≢true (sym is))
 
 module _ (locks : Locks) (e : ℕ) (s : State) where
-  pub slot_said : (at : Place) (f : SlotFacts) (r : Result Bool StoreFault) → Tells ((area_in s).slot at) f → f.used ≡ true → IfOk r (KeySaid locks e f.key s) → IfOk r (OpenSaid locks e at s)
-  slot_said at f (Ok true) tells used said = subst (λ key. KeySaid locks e key s true) (sym (tells.key used)) said
+  pub slot_said : (at : Place) (f : SlotFacts) (r : Result Bool StoreFault) → TellsSlot ((area_in s).slot at) f → f.used ≡ true → IfOk r (KeyLockSaid locks e f.key s) → IfOk r (OpenSaid locks e at s)
+  slot_said at f (Ok true) tells used said = subst (λ key. KeyLockSaid locks e key s true) (sym (tells.key used)) said
   slot_said at f (Ok false) tells used said = λ is. subst (λ key. IsFreeRow locks s e key → ⊥) (sym (tells.key used)) said
   slot_said at f (Err e2) tells used said = tt
 
-  pub older_said : (q : Place) (f : OlderFacts) (r : Result Bool StoreFault) → IsSaid ((area_in s).older q) f → f.used ≡ true → IfOk r (KeySaid locks e f.key s) → IfOk r (OpenOlderSaid locks e q s)
-  older_said q f (Ok true) tells used said = subst (λ key. KeySaid locks e key s true) (sym (tells.key used)) said
+  pub older_said : (q : Place) (f : OlderFacts) (r : Result Bool StoreFault) → IsSaid ((area_in s).older q) f → f.used ≡ true → IfOk r (KeyLockSaid locks e f.key s) → IfOk r (OpenOlderSaid locks e q s)
+  older_said q f (Ok true) tells used said = subst (λ key. KeyLockSaid locks e key s true) (sym (tells.key used)) said
   older_said q f (Ok false) tells used said = λ is. subst (λ key. IsFreeRow locks s e key → ⊥) (sym (tells.key used)) said
   older_said q f (Err e2) tells used said = tt
 
@@ -244,7 +244,7 @@ done_at e at (Undrops f) is = absurd is
 done_at e at Aborts is = absurd is
 done_at e at (Checkpoints lists) is = absurd is
 
-module _ (low : ℕ) (locks : Locks) (spared : ℕ) (may : MayEmpty) (e b : ℕ) (at : Place) (s t : State) (unlocked : KeySaid locks e ((area_in s).slot at).key s true) where
+module _ (low : ℕ) (locks : Locks) (spared : ℕ) (may : MayEmpty) (e b : ℕ) (at : Place) (s t : State) (unlocked : KeyLockSaid locks e ((area_in s).slot at).key s true) where
   pub cleans_slot : (r : Result Step StoreFault) → IfOk r (CleansSlot low locks e at s t)
       → IfOk (done_step r) (DidAt (heeding low locks spared may) (Slot e b at) (HasNoRevert locks e at s × HasNoTrim low locks e at s) s t)
   cleans_slot (Ok step.Cleaned) (one, is) = ⊎_elim
@@ -276,7 +276,7 @@ module _ (low : ℕ) (locks : Locks) (e : ℕ) (at : Place) (s : State) where
 
 -- ---- at a version entry
 
-pub frees_older : (low : ℕ) (locks : Locks) (spared e : ℕ) (may : MayEmpty) (q : Place) (s t : State) → KeySaid locks e ((area_in s).older q).key s true → (r : Result Step StoreFault)
+pub frees_older : (low : ℕ) (locks : Locks) (spared e : ℕ) (may : MayEmpty) (q : Place) (s t : State) → KeyLockSaid locks e ((area_in s).older q).key s true → (r : Result Step StoreFault)
     → IfOk r (FreesAt low locks e q s t) → IfOk (done_step r) (DidAt (heeding low locks spared may) (Kept e q) (HasNothingAt (IsFreeRow locks s) low (Kept e q) s) s t)
 frees_older low locks spared e may q s t unlocked (Ok step.Cleaned) (one, is) = freely low locks spared may (Kept e q) turn.Cleaned s t one (FreesOlder e q) tt is unlocked.1 (λ p same. absurd cc) (λ f title left same. absurd cc) (λ takes. takes)
 frees_older low locks spared e may q s t unlocked (Ok step.Nothing) (same, none) = (same, λ live free loose. none unlocked.0 loose)
@@ -289,12 +289,12 @@ told_numbers old new Cleaned is = is
 told_numbers old new Unlinked is = is
 told_numbers old new Reclaimed is = is
 
-pub told_left : (k l : TablesKept) (logged : Logged) → LeavesRoom (Some logged) k l → LeavesRoomBy (turn_logged logged) k l
+pub told_left : (k l : TablesKept) (logged : Logged) → PartLeavesRoom (Some logged) k l → LeavesRoomBy (turn_logged logged) k l
 told_left k l Cleaned is = is
 told_left k l Unlinked is = is
 told_left k l Reclaimed is = is
 
-pub told_within : (may : Bool) (counted : ℕ) (logged : Logged) → IsLetGo may (Some logged) → IsWithin may counted (turn_logged logged)
+pub told_within : (may : Bool) (counted : ℕ) (logged : Logged) → IsLetGo may (Some logged) → IsTurnWithin may counted (turn_logged logged)
 told_within may counted Cleaned is = is
 told_within may counted Unlinked is = is
 told_within may counted Reclaimed is = is

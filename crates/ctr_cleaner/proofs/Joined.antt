@@ -26,7 +26,7 @@ use Rattle.ctr_emptying.specs.declared.emptied.Emptied.TheVariants as emptied
 use Rattle.ctr_emptying.specs.Emptying.{next_emptied}
 use Rattle.ctr_cleaner.specs.declared.done.Logged.TheVariants.{Cleaned, Unlinked, Reclaimed}
 use Rattle.ctr_cleaner.specs.Turning.{HasRoomFor}
-use Rattle.ctr_cleaner.specs.Parts.{Done, next_done, LeavesRoom, IsLetGo, Tries, done_step, done_reclaim, done_freed, done_unlinked}
+use Rattle.ctr_cleaner.specs.Parts.{Done, next_done, PartLeavesRoom, IsLetGo, Tries, done_step, done_reclaim, done_freed, done_unlinked}
 
 -- ---- numbers
 
@@ -60,7 +60,7 @@ module _ {D : Type 0} (first : Image) (g : Ghosts D) where
   part_behind may x a b c result page turn part = record {
     turns = turn part.turns;
     numbers = subst (λ n. IfOk result (λ (d : Done). c.next ≡ next_done d n)) page.keeps.next part.numbers;
-    left = subst (λ (k : TablesKept). IfOk result (λ (d : Done). LeavesRoom d k c.meta)) page.keeps.meta part.left;
+    left = subst (λ (k : TablesKept). IfOk result (λ (d : Done). PartLeavesRoom d k c.meta)) page.keeps.meta part.left;
     counted = subst (λ n. OnOk result (c.now.counted ≡ n)) page.keeps.counted part.counted;
     lets = part.lets;
   }

@@ -14,7 +14,7 @@ use Rattle.ctr_emptying.specs.cursor_Standing.{IsCountedPosition}
 use Rattle.ctr_cleaner.specs.declared.done.CleanTurn.{CleanTurn}
 use Rattle.ctr_cleaner.specs.declared.done.CleanTurn.TheVariants.{Moved, Over}
 use Rattle.ctr_cleaner.specs.declared.done.MayEmpty.{MayEmpty}
-use Rattle.ctr_cleaner.specs.Turning.{Heeded, PassesBy, TurnsAt, next_cleaned, LeavesRoomBy, IsWithin, LeavesCounts}
+use Rattle.ctr_cleaner.specs.Turning.{Heeded, PassesPosition, TurnsAt, next_cleaned, LeavesRoomBy, IsTurnWithin, LeavesCounts}
 use Rattle.ctr_cleaner.specs.Parts.{Tries, DidAt, IsPassed}
 
 -- what a turn answers then
@@ -30,11 +30,11 @@ adds_none : (y : Option Position) (k l : TablesKept) → AddsItems 0 k l → Lea
 adds_none None k l adds = adds
 adds_none (Some y) k l adds = adds
 
-is_inside : (may : Bool) (n : ℕ) (y : Option Position) → IfSome y (IsCountedPosition n) → IsWithin may n (told_next y)
+is_inside : (may : Bool) (n : ℕ) (y : Option Position) → IfSome y (IsCountedPosition n) → IsTurnWithin may n (told_next y)
 is_inside may n None inside = tt
 is_inside may n (Some y) inside = inside
 
-passes_to : (h : Heeded) (x : Position) (s t : State) (y : Option Position) → PassesBy h x y s t → TurnsAt h x s t (told_next y)
+passes_to : (h : Heeded) (x : Position) (s t : State) (y : Option Position) → PassesPosition h x y s t → TurnsAt h x s t (told_next y)
 passes_to h x s t None passes = passes
 passes_to h x s t (Some y) passes = passes
 

@@ -40,11 +40,11 @@ next_done None next = next
 next_done (Some logged) next = next + 1
 
 -- what a part leaves of the room of the tables
-abbrev pub LeavesRoom : Done → TablesKept → TablesKept → Type 0
-LeavesRoom (Some Unlinked) k l = AddsItems 1 k l
-LeavesRoom (Some Reclaimed) k l =
+abbrev pub PartLeavesRoom : Done → TablesKept → TablesKept → Type 0
+PartLeavesRoom (Some Unlinked) k l = AddsItems 1 k l
+PartLeavesRoom (Some Reclaimed) k l =
     AddsItems 0 k l × (length l.tables.items + 1 ≡ length k.tables.items)
-LeavesRoom other k l = AddsItems 0 k l
+PartLeavesRoom other k l = AddsItems 0 k l
 
 -- a page leaves its chain only where it may
 abbrev pub IsLetGo : Bool → Done → Type 0
@@ -57,7 +57,7 @@ pub record Tries {D : Type 0} (may : Bool) (first : Image) (g : Ghosts D) (a b :
     (result : Result Done StoreFault) : Type 0 where
   pub turns : Turns first g a b result
   pub numbers : IfOk result (λ d. b.next ≡ next_done d a.next)
-  pub left : IfOk result (λ d. LeavesRoom d a.meta b.meta)
+  pub left : IfOk result (λ d. PartLeavesRoom d a.meta b.meta)
   pub counted : OnOk result (b.now.counted ≡ a.now.counted)
   pub lets : IfOk result (IsLetGo may)
 
@@ -97,27 +97,27 @@ HasNoEntryToFree e s = is_creator_open s e ≡ false → OwedByFreeing (area_in 
 
 -- No session has the lock of a key in this entry, nor in another of its table's name; or one has,
 -- in one of these or in a free one.
-abbrev pub KeySaid : Locks → ℕ → ℤ → State → Bool → Type 0
-KeySaid locks e key s true =
+abbrev pub KeyLockSaid : Locks → ℕ → ℤ → State → Bool → Type 0
+KeyLockSaid locks e key s true =
     IsUnlocked locks e key × IsUnlockedAs (names_of (area_in s)) locks e key
-KeySaid locks e key s false = IsFreeRow locks s e key → ⊥
+KeyLockSaid locks e key s false = IsFreeRow locks s e key → ⊥
 
 -- A slot is used, and its row isn't locked; or it isn't both.
 abbrev pub OpenSaid : Locks → ℕ → Place → State → Bool → Type 0
-OpenSaid locks e at s true = KeySaid locks e ((area_in s).slot at).key s true
+OpenSaid locks e at s true = KeyLockSaid locks e ((area_in s).slot at).key s true
 OpenSaid locks e at s false = ((area_in s).slot at).used ≡ true
     → IsFreeRow locks s e ((area_in s).slot at).key → ⊥
 
--- the same of a version entry
+-- A version entry is used, and its row isn't locked; or it isn't both.
 abbrev pub OpenOlderSaid : Locks → ℕ → Place → State → Bool → Type 0
-OpenOlderSaid locks e q s true = KeySaid locks e ((area_in s).older q).key s true
+OpenOlderSaid locks e q s true = KeyLockSaid locks e ((area_in s).older q).key s true
 OpenOlderSaid locks e q s false = ((area_in s).older q).used ≡ true
     → IsFreeRow locks s e ((area_in s).older q).key → ⊥
 
 -- A slot of a table, whose row isn't locked.
 pub record IsOpenSlot (locks : Locks) (e : ℕ) (at : Place) (s : State) : Type 0 where
   pub here : IsAmong at (slot_places (area_in s) e)
-  pub unlocked : KeySaid locks e ((area_in s).slot at).key s true
+  pub unlocked : KeyLockSaid locks e ((area_in s).slot at).key s true
 
 -- ---- in words of a turn
 

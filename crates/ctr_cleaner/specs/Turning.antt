@@ -26,8 +26,8 @@ use Rattle.ctr_cleaner.specs.declared.done.CleanTurn.TheVariants.{Cleaned, Unlin
 use Rattle.ctr_cleaner.specs.Finding.{IsFreeRow, HasNothingAt}
 
 -- What the cleaner heeds: below which number everybody sees what is committed, who has locked which
--- rows, how many items at the front of the secondary log are undo's, and what may be done in a table
--- that is dead.
+-- rows, how many items at the front of the secondary log are undo's, and what may be done in a
+-- table that is dead.
 pub record Heeded : Type 0 where
   pub low : ℕ
   pub locks : Locks
@@ -54,16 +54,16 @@ IsOfOpenRow locks (FreesOlder e q) s = IsUnlockedAs (names_of s.area) locks e (s
 IsOfOpenRow locks a s = Unit {0}
 
 -- An action is what a turn says of it: a page leaves its chain, or one is free again, or neither.
-abbrev pub IsToldBy : CleanTurn → Action → Type 0
-IsToldBy Unlinked (Unlinks p e b) = Unit {0}
-IsToldBy Unlinked (UnlinksOlder p e) = Unit {0}
-IsToldBy Unlinked a = ⊥
-IsToldBy Reclaimed (Reclaims p) = Unit {0}
-IsToldBy Reclaimed a = ⊥
-IsToldBy turn (Unlinks p e b) = ⊥
-IsToldBy turn (UnlinksOlder p e) = ⊥
-IsToldBy turn (Reclaims p) = ⊥
-IsToldBy turn a = Unit {0}
+abbrev pub IsToldByTurn : CleanTurn → Action → Type 0
+IsToldByTurn Unlinked (Unlinks p e b) = Unit {0}
+IsToldByTurn Unlinked (UnlinksOlder p e) = Unit {0}
+IsToldByTurn Unlinked a = ⊥
+IsToldByTurn Reclaimed (Reclaims p) = Unit {0}
+IsToldByTurn Reclaimed a = ⊥
+IsToldByTurn turn (Unlinks p e b) = ⊥
+IsToldByTurn turn (UnlinksOlder p e) = ⊥
+IsToldByTurn turn (Reclaims p) = ⊥
+IsToldByTurn turn a = Unit {0}
 
 -- A state is left by an action of the cleaner's for nobody, which owes nothing more in the one
 -- before, and is what the turn says. Its row isn't locked; a page that is given back is that of an
@@ -72,7 +72,7 @@ IsToldBy turn a = Unit {0}
 pub record CleansFreely (h : Heeded) (x : Position) (turn : CleanTurn) (s t : State) : Type 0
   where
     pub action : Action
-    pub told : IsToldBy turn action
+    pub told : IsToldByTurn turn action
     pub cleaning : IsCleaning (passes_below h.low s.tables) action (site_of s)
     pub free : IsOfOpenRow h.locks action (site_of s)
     pub spares : (p : ℕ) → action ≡ Reclaims p → IsAmong (FreeOf p) (drop h.spared s.tables.items)
@@ -84,7 +84,7 @@ pub record CleansFreely (h : Heeded) (x : Position) (turn : CleanTurn) (s t : St
 -- The state is as it was. No page waits to be free again but undo's. There is nothing to do at the
 -- position, which is said only where everything may be done in a table that is dead. And this is
 -- the position behind it, if any.
-pub record PassesBy (h : Heeded) (x : Position) (y : Option Position) (s t : State) : Type 0 where
+pub record PassesPosition (h : Heeded) (x : Position) (y : Option Position) (s t : State) : Type 0 where
   pub same : t ≡ s
   pub free : HasNoFree h.spared s.tables
   pub nothing : MayAll h.may → HasNothingAt (IsFreeRow h.locks s) h.low x s
@@ -95,8 +95,8 @@ abbrev pub TurnsAt : Heeded → Position → State → State → CleanTurn → T
 TurnsAt h x s t Cleaned = CleansFreely h x Cleaned s t
 TurnsAt h x s t Unlinked = CleansFreely h x Unlinked s t
 TurnsAt h x s t Reclaimed = CleansFreely h x Reclaimed s t
-TurnsAt h x s t (Moved y) = PassesBy h x (Some y) s t
-TurnsAt h x s t Over = PassesBy h x None s t
+TurnsAt h x s t (Moved y) = PassesPosition h x (Some y) s t
+TurnsAt h x s t Over = PassesPosition h x None s t
 
 -- the log's next number behind a turn
 abbrev pub next_cleaned : CleanTurn → ℕ → ℕ
@@ -116,20 +116,21 @@ LeavesRoomBy turn k l = AddsItems 0 k l
 
 -- A page leaves its chain only where it may; and what the position names to which a pass moved is
 -- there.
-abbrev pub IsWithin : Bool → ℕ → CleanTurn → Type 0
-IsWithin may_unlink counted Unlinked = may_unlink ≡ true
-IsWithin may_unlink counted (Moved y) = IsCountedPosition counted y
-IsWithin may_unlink counted turn = Unit {0}
+abbrev pub IsTurnWithin : Bool → ℕ → CleanTurn → Type 0
+IsTurnWithin may_unlink counted Unlinked = may_unlink ≡ true
+IsTurnWithin may_unlink counted (Moved y) = IsCountedPosition counted y
+IsTurnWithin may_unlink counted turn = Unit {0}
 
--- There is room for a record, and for an item of the secondary log where a page may leave its chain.
+-- There is room for a record, and for an item of the secondary log where a page may leave its
+-- chain.
 pub record HasRoomFor {D : Type 0} (may_unlink : Bool) (v : View D) : Type 0 where
   pub one : HasRoomForOne 0 0 v
   pub item : may_unlink ≡ true → 1 ≤ v.meta.items_room
 
--- What a turn leaves of a store's counts: the log's next number, the room of the tables, and as many
--- pages, within which is what it names.
+-- What a turn leaves of a store's counts: the log's next number, the room of the tables, and as
+-- many pages, within which is what it names.
 pub record LeavesCounts {D : Type 0} (may : MayEmpty) (a b : View D) (t : CleanTurn) : Type 0 where
   pub numbers : b.next ≡ next_cleaned t a.next
   pub room : LeavesRoomBy t a.meta b.meta
   pub counted : b.now.counted ≡ a.now.counted
-  pub within : IsWithin may.unlink b.now.counted t
+  pub within : IsTurnWithin may.unlink b.now.counted t

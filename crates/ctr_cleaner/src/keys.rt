@@ -5,7 +5,7 @@ ghost use Rattle.ctr_walk.specs.base_Base.{WhereSound};
 ghost use Rattle.ctr_walk.specs.record_effects_States.{area_in};
 ghost use Rattle.ctr_walk.specs.record_effects_Standing.{IsDatabaseState};
 ghost use Rattle.ctr_walk.specs.Damage.{ReadsPages};
-ghost use Rattle.ctr_cleaner.specs.Parts.{KeySaid};
+ghost use Rattle.ctr_cleaner.specs.Parts.{KeyLockSaid};
 
 use ctr_disk::{Disk, StoreFault};
 use ctr_locking::is_locked;
@@ -22,7 +22,7 @@ pub(crate) fn is_open_key<D: Disk, O: Origin>(
 ) -> Result<bool, StoreFault>
     requires going { store.old.stopped ≡ false }
     requires there { entry < 32 }
-    ensures tells { WhereSound O.first D.Disk (((area_in store.old.now).title entry).state ≢ 0 → IfOk result (KeySaid locks.now entry key store.old.now)) }
+    ensures tells { WhereSound O.first D.Disk (((area_in store.old.now).title entry).state ≢ 0 → IfOk result (KeyLockSaid locks.now entry key store.old.now)) }
     ensures leaves { ReadsPages O.first D.Disk store.old store.new result }
     ensures refused { WhereSound O.first D.Disk (IsDatabaseState store.old.now → IfErr result (λ f. f ≡ Fault)) }
 {

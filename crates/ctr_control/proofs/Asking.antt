@@ -29,7 +29,7 @@ use Rattle.ctr_writing.specs.ctr_session_world.stops_World.{KeepsWorld}
 use Rattle.ctr_writing.specs.ctr_session_world.txn_Held.{TxnHeld, TxnsHeld, IsReading, IsWriting, run_of, txn_of}
 use Rattle.ctr_writing.specs.ctr_session_world.ctr_told.Turning.{facts_idle}
 use Rattle.ctr_writing.specs.ctr_session_world.World.{SessionsHeld, AreInTables, names_in, AreInOrder}
-use Rattle.ctr_writing.specs.ctr_session_world.Told.{IsNextOf, IsTold}
+use Rattle.ctr_writing.specs.ctr_session_world.Told.{IsNextOf, IsActTold}
 use Rattle.ctr_writing.proofs.ctr_session_world.Alike.{AreAlike, alike_itself, shows_alike, in_table_still, table_of_more, put_in_order}
 use Rattle.ctr_writing.proofs.ctr_session_world.Standing.{told_state}
 use Rattle.ctr_writing.proofs.ctr_session_world.Numbers.{none_or_some}
@@ -120,7 +120,7 @@ module _ {D : Type 0} (g : Ghosts D) (c : Start) (opened : D) (a b : View D) (ol
         (λ in_. subst (λ l. IsAmong (HasTable e ((area_in a.now).title e)) l) (sym (facts_others r two)) in_)
         (next.world.tables r e key u is (sym (find-put-other r s asked_t state.sessions two) ∙ at)))
 
-    pub asked_told : AreTables more → KeepsWorld g c opened b v → IsTold next now act.Ask (reply.Asked k)
+    pub asked_told : AreTables more → KeepsWorld g c opened b v → IsActTold next now act.Ask (reply.Asked k)
     asked_told tables keeps = record {
       mind = v;
       world = record {

@@ -29,7 +29,7 @@ use Rattle.ctr_writing.specs.ctr_session_world.stops_World.{KeepsWorld}
 use Rattle.ctr_writing.specs.ctr_session_world.txn_Held.{TxnHeld, TxnsHeld, IsOneOfEight, run_of, txn_of}
 use Rattle.ctr_writing.specs.ctr_session_world.txn_Steps.{SetsTxn, txn_begun}
 use Rattle.ctr_writing.specs.ctr_session_world.World.{SessionsHeld, IsInTable, AreInTables, names_in, AreInOrder}
-use Rattle.ctr_writing.specs.ctr_session_world.Told.{IsNextOf, IsTold}
+use Rattle.ctr_writing.specs.ctr_session_world.Told.{IsNextOf, IsActTold}
 use Rattle.ctr_writing.proofs.ctr_session_world.Standing.{RunFinds, none_of, told_state}
 
 -- the run with a session that begins
@@ -103,7 +103,7 @@ module _ {D : Type 0} (g : Ghosts D) (c : Start) (opened : D) (a b : View D) (ol
           (λ one_. absurd (none_locked e key (subst (λ q. session_locks q e key locks ≡ true) (eqb-true r s one_) is)))
           (λ two. subst (λ l. IsInTable a.now e u l) (sym (same_facts r two)) (next.world.tables r e key u is (sym (find-put-other r s (begun state.answered) state.sessions two) ∙ at)))
 
-      pub begun_told : KeepsWorld g c opened b (telling next.e act.Begin (reply.Began state.answered) next.mind (begun_mind s (site_of a.now) state.answered next.mind)) → IsTold next now act.Begin (reply.Began state.answered)
+      pub begun_told : KeepsWorld g c opened b (telling next.e act.Begin (reply.Began state.answered) next.mind (begun_mind s (site_of a.now) state.answered next.mind)) → IsActTold next now act.Begin (reply.Began state.answered)
       begun_told keeps =
           let v = telling next.e act.Begin (reply.Began state.answered) next.mind (begun_mind s (site_of a.now) state.answered next.mind) in
           let is_state = told_state g c opened a b h s st.Begin 0 next act.Begin (reply.Began state.answered) v refl

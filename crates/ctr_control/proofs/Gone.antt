@@ -24,7 +24,7 @@ use Rattle.ctr_writing.specs.ctr_session_world.stops_World.{KeepsWorld}
 use Rattle.ctr_writing.specs.ctr_session_world.paged_Paged.{Run}
 use Rattle.ctr_writing.specs.ctr_session_world.txn_Held.{TxnsHeld, run_of}
 use Rattle.ctr_writing.specs.ctr_session_world.World.{IsInTable, AreInTables, names_in, AreInOrder}
-use Rattle.ctr_writing.specs.ctr_session_world.Told.{CountsBehind, IsNextOf, IsTold}
+use Rattle.ctr_writing.specs.ctr_session_world.Told.{CountsBehindReply, IsNextOf, IsActTold}
 use Rattle.ctr_writing.proofs.ctr_session_world.Standing.{told_state}
 
 module _ {D : Type 0} (g : Ghosts D) (c : Start) (opened : D) (a b : View D) (old new : TxnsHeld) (locks left : List (ℕ × LocksOfSession)) (s : ℕ) (statement : Statement) (made : ℕ)
@@ -53,7 +53,7 @@ module _ {D : Type 0} (g : Ghosts D) (c : Start) (opened : D) (a b : View D) (ol
         (in_table_still a.now b.now e u u (w.facts q) (w.facts q) (same_title e) (λ n is. is) (λ in_. in_)
         (next.world.tables q e key u (ap (locks_key e key) (sym (frees.others q two)) ∙ is) (sym (find-without-other q s state.sessions two) ∙ at))))
 
-    pub gone_told : CountsBehind r (w.facts s) (v.facts s) → KeepsWorld g c opened b v → IsTold next (record { txns = new; locks = left }) x r
+    pub gone_told : CountsBehindReply r (w.facts s) (v.facts s) → KeepsWorld g c opened b v → IsActTold next (record { txns = new; locks = left }) x r
     gone_told counts keeps =
         let is_state = told_state g c opened a b (record { txns = old; locks = locks }) s statement made next x r v refl ∙ is_next in
         record {

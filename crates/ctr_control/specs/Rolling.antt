@@ -5,7 +5,7 @@ use Rattle.ctr_types.specs.declared.tape.Reply.{Reply}
 use Rattle.ctr_writing.specs.ctr_session_world.ctr_rollback.declared.rolling.Rolled.{Rolled}
 use Rattle.ctr_writing.specs.ctr_session_world.ctr_rollback.declared.rolling.Rolled.TheVariants.{Undone, Back}
 
--- It goes on where an item was undone, and replies where the transaction is aborted.
+-- A ROLLBACK goes on where an item was undone, and replies where the transaction is aborted.
 abbrev pub rolled_by : Option Reply → Rolled
 rolled_by None = Undone
 rolled_by (Some r) = Back

@@ -7,7 +7,7 @@ ghost use Rattle.ctr_locks.specs.Held.{LocksOfSession};
 ghost use Rattle.ctr_writing.specs.ctr_session_world.kept_Turns.{Start};
 ghost use Rattle.ctr_writing.specs.ctr_session_world.txn_Held.{IsOneOfEight};
 ghost use Rattle.ctr_writing.specs.ctr_session_world.Ready.{LeavesReady, StandOver, StaysUnasked};
-ghost use Rattle.ctr_writing.specs.ctr_session_world.Told.{IsNextOf, IsTold};
+ghost use Rattle.ctr_writing.specs.ctr_session_world.Told.{IsNextOf, IsActTold};
 
 use ctr_base::Origin;
 use ctr_disk::Disk;
@@ -30,7 +30,7 @@ pub fn begin<D: Disk, O: Origin>(
     ensures over { StandOver txns.old store.now → store.now.stopped ≡ false → LeavesReady s txns.old txns.new store.now store.now × StaysUnasked s txns.old txns.new }
     ensures told { (c : Start) (opened : D) (locks : List (ℕ × LocksOfSession)) → WhereSound O.first D.Disk (store.now.stopped ≡ false
         → (next : IsNextOf D.Disk c opened store.now store.now (record { txns = txns.old; locks = locks }) s st.Begin 0)
-        → IsTold next (record { txns = txns.new; locks = locks }) act.Begin result) }
+        → IsActTold next (record { txns = txns.new; locks = locks }) act.Begin result) }
 {
     a_begin_is_told::<D>();
     a_refusal_is_told::<D>();

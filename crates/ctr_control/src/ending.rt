@@ -9,7 +9,7 @@ ghost use Rattle.ctr_base.specs.Base.{WhereSound};
 ghost use Rattle.ctr_writing.specs.ctr_session_world.kept_Turns.{Start};
 ghost use Rattle.ctr_writing.specs.ctr_session_world.txn_Held.{txn_of};
 ghost use Rattle.ctr_writing.specs.ctr_session_world.Ready.{LeavesReady, MayTurn, StaysUnasked, LeavesDisk, is_asking};
-ghost use Rattle.ctr_writing.specs.ctr_session_world.Told.{IsNextOf, IsTold, IsIdleIn};
+ghost use Rattle.ctr_writing.specs.ctr_session_world.Told.{IsNextOf, IsActTold, IsIdleIn};
 
 use crate::marks::ask_for;
 use ctr_base::Origin;
@@ -38,7 +38,7 @@ pub fn ask<D: Disk, O: Origin>(
     // Who is told no number has finished its COMMIT.
     ensures ends { IfOk result (λ r. is_asked r ≡ false → goes_on r ≡ false) }
     ensures told { (c : Start) (opened : D) → WhereSound O.first D.Disk ((next : IsNextOf D.Disk c opened store.old store.new (record { txns = txns.old; locks = locks.old }) s st.Commit 0) → IsIdleIn c next.mind s
-        → IfOk result (IsTold next (record { txns = txns.new; locks = locks.new }) act.Ask)) }
+        → IfOk result (IsActTold next (record { txns = txns.new; locks = locks.new }) act.Ask)) }
     // In a World it fails by the disk alone.
     ensures refused { (c : Start) (opened : D) → WhereSound O.first D.Disk ((next : IsNextOf D.Disk c opened store.old store.new (record { txns = txns.old; locks = locks.old }) s st.Commit 0) → IsIdleIn c next.mind s
         → IfErr result (λ e. e ≡ Fault)) }

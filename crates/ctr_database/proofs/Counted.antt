@@ -10,15 +10,15 @@ use Rattle.ctr_survey.specs.chain_ReadRefusal.{ReadRefusal}
 use Rattle.ctr_survey.specs.chain_ReadRefusal.TheVariants as refusal
 use Rattle.ctr_survey.specs.reading_Reading.{IsDiskOrMemory}
 use Rattle.ctr_run.specs.ctr_world.Ended.{PassesOpening, RefusesWorld}
-use Rattle.ctr_database.specs.Database.{refused_by}
+use Rattle.ctr_database.specs.Database.{counting_refused_by}
 
 -- why nothing is counted, as the reading of the pages tells it, which tells no damage of a database
-pub told_reading : (image : Image) (r : ReadRefusal) → PassesOpening image → ((s : State) → StandsForDatabase image s → IsDiskOrMemory r) → RefusesWorld image (refused_by r)
+pub told_reading : (image : Image) (r : ReadRefusal) → PassesOpening image → ((s : State) → StandsForDatabase image s → IsDiskOrMemory r) → RefusesWorld image (counting_refused_by r)
 told_reading image (refusal.Store fault.Fault) passes undamaged = tt
 told_reading image (refusal.Store (fault.Damaged d)) passes undamaged = inr (passes, λ s stands. let same = undamaged s stands in cc)
 told_reading image refusal.OutOfMemory passes undamaged = tt
 
-pub reading_undamaged : (r : ReadRefusal) → IsDiskOrMemory r → IsUndamaged (refused_by r)
+pub reading_undamaged : (r : ReadRefusal) → IsDiskOrMemory r → IsUndamaged (counting_refused_by r)
 reading_undamaged (refusal.Store fault.Fault) is = tt
 reading_undamaged (refusal.Store (fault.Damaged d)) is = absurd cc
 reading_undamaged refusal.OutOfMemory is = tt

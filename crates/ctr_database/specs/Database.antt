@@ -29,6 +29,6 @@ disk_counted (Ok r) = r.1
 disk_counted (Err e) = e.1
 
 -- why nothing is counted, as an opening tells it
-abbrev pub refused_by : ReadRefusal → OpenError
-refused_by (refusal.Store fault) = fault_told fault
-refused_by refusal.OutOfMemory = OutOfMemory
+abbrev pub counting_refused_by : ReadRefusal → OpenError
+counting_refused_by (refusal.Store fault) = fault_told fault
+counting_refused_by refusal.OutOfMemory = OutOfMemory

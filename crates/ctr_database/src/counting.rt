@@ -6,7 +6,7 @@ ghost use Rattle.ctr_record_effects.specs.Standing.{StandsForDatabase};
 ghost use Rattle.ctr_store.specs.Opening.{IsUndamaged};
 ghost use Rattle.ctr_survey.specs.Surveying.{survey_of};
 ghost use Rattle.ctr_run.specs.ctr_world.Ended.{PassesOpening, RefusesWith, RefusesWorld};
-ghost use Rattle.ctr_database.specs.Database.{disk_counted, refused_by};
+ghost use Rattle.ctr_database.specs.Database.{disk_counted, counting_refused_by};
 
 use ctr_base::Origin;
 use ctr_disk::Disk;
@@ -21,7 +21,7 @@ use std::marker::Brand;
 
 // Why nothing is counted, as an opening tells it.
 fn refused(refusal: SurveyRefusal) -> OpenError
-    ensures { result ≡ refused_by refusal }
+    ensures { result ≡ counting_refused_by refusal }
 {
     match refusal {
         SurveyRefusal::Store(fault) => OpenError::from(fault),

@@ -15,8 +15,8 @@ use Rattle.ctr_page_turns.specs.Rooms.{AddsItems}
 use Rattle.ctr_ddl.specs.declared.making.Made.{Made}
 use Rattle.ctr_ddl.specs.declared.making.Made.TheVariants.{At, CatalogFull}
 
--- The pages may be a database's, the transaction is open and sees no table of the name, and nobody else
--- has made or dropped one that is open.
+-- The pages may be a database's, the transaction is open and sees no table of the name, and nobody
+-- else has made or dropped one that is open.
 pub record MayMake (x : ℕ) (name : List ℕ) (s : State) : Type 0 where
   pub sound : IsDatabaseState s
   pub is_open : is_in x s.tables.opens ≡ true

@@ -30,7 +30,7 @@ use Rattle.ctr_record_effects.specs.States.{pages_in, area_in}
 use Rattle.ctr_record_effects.specs.Standing.{IsDatabaseState}
 use Rattle.ctr_pvs.proofs.passed_Pagewise.{page_by_page}
 use Rattle.ctr_trim.proofs.undamaged_Inside.{on_bucket, on_versions}
-use Rattle.ctr_dead.specs.Unlinking.{leaving_record, OwedByLeaving, NextSaid, LeavesItsChain}
+use Rattle.ctr_dead.specs.Unlinking.{leaving_record, OwedByLeaving, NextPageSaid, LeavesItsChain}
 
 -- a chain that begins at a page has it
 begins_with : (header : ℕ → Header) (p : ℕ) → (p ≡ 0 → ⊥) → IsAmong p (pages_from pages_bound header p)
@@ -80,11 +80,11 @@ module _ (s : State) (database : IsDatabaseState s) where
 
 -- a page that passes is told no damage of
 pub undamaged : (told : BadChain → StoreFault) (p counted : ℕ) (chain : Chain) (page : List ℕ) (e : StoreFault) → header_check chain counted page ≡ Ok tt
-    → EndsTold {T = ℕ} told (EndsOnPage p (NextSaid counted chain page)) (Err e) → e ≡ Fault
+    → EndsTold {T = ℕ} told (EndsOnPage p (NextPageSaid counted chain page)) (Err e) → e ≡ Fault
 undamaged told p counted chain page Fault passes ends = refl
 undamaged told p counted chain page (Damaged d) passes (bad, ends, tells) = absurd (none bad ends)
   where
-    none : (bad : BadChain) → EndsOnPage {T = ℕ} p (NextSaid counted chain page) (Err bad) → ⊥
+    none : (bad : BadChain) → EndsOnPage {T = ℕ} p (NextPageSaid counted chain page) (Err bad) → ⊥
     none (OnPage q b) (here, fails) = let both = sym passes ∙ fails in cc
     none (TooLong last most) ends = ends
 

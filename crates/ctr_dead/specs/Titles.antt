@@ -23,6 +23,6 @@ freed_title area e = record (area.title e) { state = 0 }
 abbrev pub freed_area : Area → ℕ → Area
 freed_area area e = with_firsts e no_pages (with_title e (freed_title area e) area)
 
--- an entry is freed
+-- The action by which an entry of the catalog is freed.
 abbrev pub frees : ℕ → Area → Action
 frees e area = FreesEntry e (freed_title area e) (freed_area area e)

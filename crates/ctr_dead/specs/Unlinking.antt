@@ -32,21 +32,21 @@ abbrev pub leaving_record : ℕ → ℕ → Chain → Record
 leaving_record p next (Rows e b) = unlink_record p next e b
 leaving_record p next (Versions e) = unlink_older_record p next e
 
--- the action
+-- The action by which a page leaves its chain.
 abbrev pub leaves_chain : ℕ → Chain → Action
 leaves_chain p (Rows e b) = Unlinks p e b
 leaves_chain p (Versions e) = UnlinksOlder p e
 
--- what it owes
+-- What is owed where a page leaves its chain.
 abbrev pub OwedByLeaving : Tables → Area → ℕ → Chain → Type 0
 OwedByLeaving tables area p (Rows e b) = OwedByUnlink tables area p e b
 OwedByLeaving tables area p (Versions e) = OwedByOlderUnlink area p e
 
 -- A page passes as one of a chain, and this is the next one; or what is wrong is told.
-abbrev pub NextSaid : ℕ → Chain → List ℕ → Result ℕ BadRecord → Type 0
-NextSaid counted chain page (Ok next) =
+abbrev pub NextPageSaid : ℕ → Chain → List ℕ → Result ℕ BadRecord → Type 0
+NextPageSaid counted chain page (Ok next) =
     (header_check chain counted page ≡ Ok tt) × (next ≡ (header_in page).next)
-NextSaid counted chain page (Err bad) = header_check chain counted page ≡ Err bad
+NextPageSaid counted chain page (Err bad) = header_check chain counted page ≡ Err bad
 
 -- Its record is logged, with the next page as the page's header says it; or pages were read, or the
 -- record was refused.
@@ -65,7 +65,7 @@ abbrev pub EndsUnlinking : {D : Type 0} → (BadChain → StoreFault) → ℕ �
     → Result ⊤ StoreFault → Type 0
 EndsUnlinking told p chain a b (Ok x) = header_check chain a.now.counted (pages_in a.now p) ≡ Ok tt
 EndsUnlinking told p chain a b (Err cause) =
-    EndsTold {T = ℕ} told (EndsOnPage p (NextSaid a.now.counted chain (pages_in a.now p)))
+    EndsTold {T = ℕ} told (EndsOnPage p (NextPageSaid a.now.counted chain (pages_in a.now p)))
     (Err cause)
     ⊎ ((header_check chain a.now.counted (pages_in a.now p) ≡ Ok tt)
     × WhyNotLogged (leaving_record p (header_in (pages_in a.now p)).next chain) a b cause)

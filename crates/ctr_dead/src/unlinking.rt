@@ -15,7 +15,7 @@ ghost use Rattle.ctr_record_effects.specs.Standing.{IsDatabaseState};
 ghost use Rattle.ctr_alloc.specs.actions_Sites.{site_of};
 ghost use Rattle.ctr_alloc.specs.actions_Actions.{site_after};
 ghost use Rattle.ctr_trim.specs.page_turns_Acts.{ActsBy};
-ghost use Rattle.ctr_dead.specs.Unlinking.{front_at, leaving_record, leaves_chain, OwedByLeaving, NextSaid, LeavesItsChain, EndsUnlinking};
+ghost use Rattle.ctr_dead.specs.Unlinking.{front_at, leaving_record, leaves_chain, OwedByLeaving, NextPageSaid, LeavesItsChain, EndsUnlinking};
 
 use ctr_alloc::a_logged_record_is_its_action;
 use ctr_bytes::put_u32;
@@ -39,7 +39,7 @@ const VERSIONS_AT: u8 = 211;
 fn next_in(chain: Chain, counted: u32, page: &[u8]) -> Result<PageNo, BadPage>
     requires some { 0 < counted }
     requires whole { length page.now ≡ PAGE_SIZE }
-    ensures said { NextSaid counted chain page.now result }
+    ensures said { NextPageSaid counted chain page.now result }
     ensures small { IfOk result (λ n. n < counted) }
 {
     check_header(chain, counted, page)?;
@@ -54,7 +54,7 @@ fn next_of<D: Disk, O: Origin>(
 ) -> Result<PageNo, SearchFault>
     requires going { store.old.stopped ≡ false }
     requires counted { p < store.old.now.counted }
-    ensures said { WhereSound O.first D.Disk (IfOk (searched result) (EndsOnPage p (NextSaid store.old.now.counted chain (pages_in store.old.now p)))) }
+    ensures said { WhereSound O.first D.Disk (IfOk (searched result) (EndsOnPage p (NextPageSaid store.old.now.counted chain (pages_in store.old.now p)))) }
     ensures small { IfOk result (λ n. n < store.old.now.counted) }
     ensures leaves { LeavesPage O.first D.Disk store.old store.new (searched result) }
 {

@@ -8,24 +8,24 @@ use Rattle.std.specs.Ordering.{int_eq}
 use Rattle.ctr_page.specs.declared.rows.Place.{Place}
 use Rattle.ctr_page.specs.Reading.{header_in}
 use Rattle.ctr_directory.specs.declared.remembered.Remembered.{Remembered}
-use Rattle.ctr_directory.specs.Keys.{key_on, key_before, slots_of, LeadsTo, over_slots}
-use Rattle.ctr_directory.specs.Chains.{PagePasses, RunsAlong, BucketSaid, kinds_kept, checks_of, keys_in, IsBucket, ChangesPage, has_page, TellsKey, IsTold, Knows}
+use Rattle.ctr_directory.specs.Keys.{key_on, key_before, slots_of_kinds, KeysLead, over_slots}
+use Rattle.ctr_directory.specs.Chains.{RowPagePasses, RunsAlong, BucketSaid, kinds_kept, checks_of, keys_in, IsRememberedBucket, ChangesPage, is_page_of, TellsKey, IsPlaceTold, Knows}
 use Rattle.ctr_directory.proofs.Leading.{by_test, leads_same}
 use Rattle.ctr_directory.proofs.Along.{has_on, runs_moved, runs_on}
 use Rattle.ctr_directory.proofs.Keeping.{its_key, no_key, page_changed, page_elsewhere}
 
-module _ (counted : ℕ) (pages : ℕ → List ℕ) (s t : Remembered) (number : ℕ) (some : number ≢ 0) (old : IsBucket counted pages s)
-    (same : t ≡ record s { pages = t.pages; places = t.places }) (passes : PagePasses (checks_of counted s) (pages number))
+module _ (counted : ℕ) (pages : ℕ → List ℕ) (s t : Remembered) (number : ℕ) (some : number ≢ 0) (old : IsRememberedBucket counted pages s)
+    (same : t ≡ record s { pages = t.pages; places = t.places }) (passes : RowPagePasses (checks_of counted s) (pages number))
     (added : (q : ℕ) → contains nat_eq t.pages q ≡ cond (number == q) true (contains nat_eq s.pages q))
     (long : (index_set_len t.pages ≡ index_set_len s.pages + 1) × (index_set_len t.pages + 3 ≤ counted))
-    (leads : LeadsTo (keys_in t.pages (kinds_kept s) pages) t.places) where
+    (leads : KeysLead (keys_in t.pages (kinds_kept s) pages) t.places) where
   -- in front of the others
-  pub before_others : (number ≡ s.first) → ((header_in (pages number)).next ≡ s.head) → IsBucket counted pages (record t { head = number })
+  pub before_others : (number ≡ s.first) → ((header_in (pages number)).next ≡ s.head) → IsRememberedBucket counted pages (record t { head = number })
   before_others first next =
-      subst (λ (x : Remembered). IsBucket counted pages (record x { head = number })) (sym same) (record {
+      subst (λ (x : Remembered). IsRememberedBucket counted pages (record x { head = number })) (sym same) (record {
         said = old.said;
         chain = number ∷ old.chain;
-        runs = (refl, some, passes, subst (λ n. RunsAlong (PagePasses (checks_of counted s)) pages n old.chain s.rest) (sym next) old.runs);
+        runs = (refl, some, passes, subst (λ n. RunsAlong (RowPagePasses (checks_of counted s)) pages n old.chain s.rest) (sym next) old.runs);
         few = omega (arith, long.0, long.1, old.long);
         long = omega (arith, long.0, old.long);
         there = λ p. added p ∙ ap (λ b. cond (number == p) true b) (old.there p);
@@ -33,14 +33,14 @@ module _ (counted : ℕ) (pages : ℕ → List ℕ) (s t : Remembered) (number :
       })
 
   -- behind them
-  pub behind_others : (next : ℕ) → (number ≡ s.rest) → next ≡ (header_in (pages number)).next → IsBucket counted pages (record t { rest = next })
+  pub behind_others : (next : ℕ) → (number ≡ s.rest) → next ≡ (header_in (pages number)).next → IsRememberedBucket counted pages (record t { rest = next })
   behind_others next rest goes =
       let longer : length (old.chain ++ number ∷ []) ≡ length old.chain + 1 = length-append old.chain (number ∷ []) in
-      subst (λ (x : Remembered). IsBucket counted pages (record x { rest = next })) (sym same) (record {
+      subst (λ (x : Remembered). IsRememberedBucket counted pages (record x { rest = next })) (sym same) (record {
         said = old.said;
         chain = old.chain ++ number ∷ [];
-        runs = subst (λ n. RunsAlong (PagePasses (checks_of counted s)) pages s.head (old.chain ++ number ∷ []) n) (sym goes)
-            (runs_on (PagePasses (checks_of counted s)) pages s.head old.chain number (subst (λ n. RunsAlong (PagePasses (checks_of counted s)) pages s.head old.chain n) (sym rest) old.runs) some passes);
+        runs = subst (λ n. RunsAlong (RowPagePasses (checks_of counted s)) pages s.head (old.chain ++ number ∷ []) n) (sym goes)
+            (runs_on (RowPagePasses (checks_of counted s)) pages s.head old.chain number (subst (λ n. RunsAlong (RowPagePasses (checks_of counted s)) pages s.head old.chain n) (sym rest) old.runs) some passes);
         few = omega (arith, longer, long.0, long.1, old.long);
         long = omega (arith, longer, long.0, old.long);
         there = λ p. added p ∙ ap (λ b. cond (number == p) true b) (old.there p) ∙ sym (has_on p number old.chain);
@@ -48,9 +48,9 @@ module _ (counted : ℕ) (pages : ℕ → List ℕ) (s t : Remembered) (number :
       })
 
 -- one page has other bytes
-module _ (counted number : ℕ) (before after : List ℕ) (a b : ℕ → List ℕ) (changes : ChangesPage number before after a b) (s : Remembered) (old : IsBucket counted a s) where
+module _ (counted number : ℕ) (before after : List ℕ) (a b : ℕ → List ℕ) (changes : ChangesPage number before after a b) (s : Remembered) (old : IsRememberedBucket counted a s) where
   -- what it had in its slots
-  pub was_there : length before ≡ 4096 → contains nat_eq s.pages number ≡ true → (n : ℕ) → n < slots_of (kinds_kept s) → keys_in s.pages (kinds_kept s) a number n ≡ key_before (kinds_kept s) n before
+  pub was_there : length before ≡ 4096 → contains nat_eq s.pages number ≡ true → (n : ℕ) → n < slots_of_kinds (kinds_kept s) → keys_in s.pages (kinds_kept s) a number n ≡ key_before (kinds_kept s) n before
   was_there whole is n lt =
       its_key s.pages (kinds_kept s) a number n is lt
       ∙ ap (λ page. key_on (kinds_kept s) n page) changes.was
@@ -58,65 +58,65 @@ module _ (counted number : ℕ) (before after : List ℕ) (a b : ℕ → List �
 
   module _ (t : Remembered) (said : BucketSaid counted s.entry s.bucket (b (1 + s.entry / 16)) (kinds_kept s) t.first) where
     -- it is one of the chain's
-    pub page_renewed : t ≡ record s { first = t.first; places = t.places } → contains nat_eq s.pages number ≡ true → PagePasses (checks_of counted s) after → (header_in after).next ≡ (header_in before).next
-        → LeadsTo (over_slots number (slots_of (kinds_kept s)) (λ n. key_on (kinds_kept s) n after) (keys_in s.pages (kinds_kept s) a)) t.places → IsBucket counted b t
+    pub page_renewed : t ≡ record s { first = t.first; places = t.places } → contains nat_eq s.pages number ≡ true → RowPagePasses (checks_of counted s) after → (header_in after).next ≡ (header_in before).next
+        → KeysLead (over_slots number (slots_of_kinds (kinds_kept s)) (λ n. key_on (kinds_kept s) n after) (keys_in s.pages (kinds_kept s) a)) t.places → IsRememberedBucket counted b t
     page_renewed same is passes next leads =
-        subst (λ (x : Remembered). IsBucket counted b x) (sym same) (record {
+        subst (λ (x : Remembered). IsRememberedBucket counted b x) (sym same) (record {
           said = said;
           chain = old.chain;
-          runs = runs_moved (PagePasses (checks_of counted s)) a b s.head old.chain s.rest each old.runs;
+          runs = runs_moved (RowPagePasses (checks_of counted s)) a b s.head old.chain s.rest each old.runs;
           few = old.few;
           long = old.long;
           there = old.there;
-          leads = leads_same (over_slots number (slots_of (kinds_kept s)) (λ n. key_on (kinds_kept s) n (b number)) (keys_in s.pages (kinds_kept s) a)) (keys_in s.pages (kinds_kept s) b) t.places
+          leads = leads_same (over_slots number (slots_of_kinds (kinds_kept s)) (λ n. key_on (kinds_kept s) n (b number)) (keys_in s.pages (kinds_kept s) a)) (keys_in s.pages (kinds_kept s) b) t.places
               (page_changed s.pages (kinds_kept s) a b number is changes.others)
-              (subst (λ page. LeadsTo (over_slots number (slots_of (kinds_kept s)) (λ n. key_on (kinds_kept s) n page) (keys_in s.pages (kinds_kept s) a)) t.places) (sym changes.is) leads);
+              (subst (λ page. KeysLead (over_slots number (slots_of_kinds (kinds_kept s)) (λ n. key_on (kinds_kept s) n page) (keys_in s.pages (kinds_kept s) a)) t.places) (sym changes.is) leads);
         })
       where
-        at_page : (q : ℕ) → q ≡ number → PagePasses (checks_of counted s) (b q) × ((header_in (b q)).next ≡ (header_in (a q)).next)
+        at_page : (q : ℕ) → q ≡ number → RowPagePasses (checks_of counted s) (b q) × ((header_in (b q)).next ≡ (header_in (a q)).next)
         at_page q here =
             let now : b q ≡ after = ap (λ k. b k) here ∙ changes.is in
             let was : a q ≡ before = ap (λ k. a k) here ∙ changes.was in
-            (subst (λ page. PagePasses (checks_of counted s) page) (sym now) passes, ap (λ page. (header_in page).next) now ∙ next ∙ sym (ap (λ page. (header_in page).next) was))
+            (subst (λ page. RowPagePasses (checks_of counted s) page) (sym now) passes, ap (λ page. (header_in page).next) now ∙ next ∙ sym (ap (λ page. (header_in page).next) was))
 
-        each : (q : ℕ) → has_page q old.chain ≡ true → PagePasses (checks_of counted s) (a q) → PagePasses (checks_of counted s) (b q) × ((header_in (b q)).next ≡ (header_in (a q)).next)
+        each : (q : ℕ) → is_page_of q old.chain ≡ true → RowPagePasses (checks_of counted s) (a q) → RowPagePasses (checks_of counted s) (b q) × ((header_in (b q)).next ≡ (header_in (a q)).next)
         each q in_ passed =
             by_test (q == number) (λ yes. at_page q (eqb-true q number yes))
             (λ no.
             let stays = changes.others q (eqb-false q number no) in
-            (subst (λ page. PagePasses (checks_of counted s) page) (sym stays) passed, ap (λ page. (header_in page).next) stays))
+            (subst (λ page. RowPagePasses (checks_of counted s) page) (sym stays) passed, ap (λ page. (header_in page).next) stays))
 
     -- it isn't
-    pub page_apart : t ≡ record s { first = t.first } → contains nat_eq s.pages number ≡ false → IsBucket counted b t
+    pub page_apart : t ≡ record s { first = t.first } → contains nat_eq s.pages number ≡ false → IsRememberedBucket counted b t
     page_apart same isnt =
-        subst (λ (x : Remembered). IsBucket counted b x) (sym same) (record {
+        subst (λ (x : Remembered). IsRememberedBucket counted b x) (sym same) (record {
           said = said;
           chain = old.chain;
-          runs = runs_moved (PagePasses (checks_of counted s)) a b s.head old.chain s.rest each old.runs;
+          runs = runs_moved (RowPagePasses (checks_of counted s)) a b s.head old.chain s.rest each old.runs;
           few = old.few;
           long = old.long;
           there = old.there;
           leads = leads_same (keys_in s.pages (kinds_kept s) a) (keys_in s.pages (kinds_kept s) b) s.places (page_elsewhere s.pages (kinds_kept s) a b number isnt changes.others) old.leads;
         })
       where
-        each : (q : ℕ) → has_page q old.chain ≡ true → PagePasses (checks_of counted s) (a q) → PagePasses (checks_of counted s) (b q) × ((header_in (b q)).next ≡ (header_in (a q)).next)
+        each : (q : ℕ) → is_page_of q old.chain ≡ true → RowPagePasses (checks_of counted s) (a q) → RowPagePasses (checks_of counted s) (b q) × ((header_in (b q)).next ≡ (header_in (a q)).next)
         each q in_ passed =
             let stays = changes.others q (λ here. absurd (let e = sym (ap (λ k. contains nat_eq s.pages k) here ∙ isnt) ∙ old.there q ∙ in_ in cc)) in
-            (subst (λ page. PagePasses (checks_of counted s) page) (sym stays) passed, ap (λ page. (header_in page).next) stays)
+            (subst (λ page. RowPagePasses (checks_of counted s) page) (sym stays) passed, ap (λ page. (header_in page).next) stays)
 
 -- all of the chain was read
-module _ (counted : ℕ) (pages : ℕ → List ℕ) (s : Remembered) (old : IsBucket counted pages s) (whole : s.head ≡ s.first) (end : s.rest ≡ 0) (key : ℤ) where
+module _ (counted : ℕ) (pages : ℕ → List ℕ) (s : Remembered) (old : IsRememberedBucket counted pages s) (whole : s.head ≡ s.first) (end : s.rest ≡ 0) (key : ℤ) where
   tells : (found : Option Place) → found ≡ get int_eq s.places key → TellsKey (kinds_kept s) pages old.chain key found
   tells found is at in_ lt has = is ∙ (old.leads key at).1 (its_key s.pages (kinds_kept s) pages at.page at.slot (old.there at.page ∙ in_) lt ∙ has)
 
-  told : (found : Option Place) → found ≡ get int_eq s.places key → IsTold (kinds_kept s) pages old.chain key found
+  told : (found : Option Place) → found ≡ get int_eq s.places key → IsPlaceTold (kinds_kept s) pages old.chain key found
   told None is = tt
   told (Some at) is =
       let has : keys_in s.pages (kinds_kept s) pages at.page at.slot ≡ Some key = (old.leads key at).0 (sym is) in
       by_test (contains nat_eq s.pages at.page)
-      (λ in_. by_test (nat_lt at.slot (slots_of (kinds_kept s)))
-      (λ low. (sym (old.there at.page) ∙ in_, ltb-true at.slot (slots_of (kinds_kept s)) low, sym (its_key s.pages (kinds_kept s) pages at.page at.slot in_ (ltb-true at.slot (slots_of (kinds_kept s)) low)) ∙ has))
-      (λ high. absurd (let e : None ≡ Some key = sym (ap (λ b. cond b (key_on (kinds_kept s) at.slot (pages at.page)) None) (ap (λ b. b && nat_lt at.slot (slots_of (kinds_kept s))) in_ ∙ high)) ∙ has in cc)))
+      (λ in_. by_test (nat_lt at.slot (slots_of_kinds (kinds_kept s)))
+      (λ low. (sym (old.there at.page) ∙ in_, ltb-true at.slot (slots_of_kinds (kinds_kept s)) low, sym (its_key s.pages (kinds_kept s) pages at.page at.slot in_ (ltb-true at.slot (slots_of_kinds (kinds_kept s)) low)) ∙ has))
+      (λ high. absurd (let e : None ≡ Some key = sym (ap (λ b. cond b (key_on (kinds_kept s) at.slot (pages at.page)) None) (ap (λ b. b && nat_lt at.slot (slots_of_kinds (kinds_kept s))) in_ ∙ high)) ∙ has in cc)))
       (λ out. absurd (let e : None ≡ Some key = sym (no_key s.pages (kinds_kept s) pages at.page at.slot out) ∙ has in cc))
 
   pub knows : (found : Option Place) → found ≡ get int_eq s.places key → Knows counted pages s.entry s.bucket key found
@@ -125,7 +125,7 @@ module _ (counted : ℕ) (pages : ℕ → List ℕ) (s : Remembered) (old : IsBu
     first = s.first;
     chain = old.chain;
     said = old.said;
-    runs = subst (λ p. RunsAlong (PagePasses (checks_of counted s)) pages p old.chain 0) whole (subst (λ q. RunsAlong (PagePasses (checks_of counted s)) pages s.head old.chain q) end old.runs);
+    runs = subst (λ p. RunsAlong (RowPagePasses (checks_of counted s)) pages p old.chain 0) whole (subst (λ q. RunsAlong (RowPagePasses (checks_of counted s)) pages s.head old.chain q) end old.runs);
     few = old.few;
     tells = tells found is;
     told = told found is;

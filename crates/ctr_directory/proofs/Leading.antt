@@ -4,7 +4,7 @@ use Rattle.std.specs.Prelude.{◌==◌, ◌&&◌, nat_lt}
 use Rattle.std.proofs.lemmas.Bool.{and_parts, eqb-true, eqb-false, eq-eqb, lt-ltb, le-ltb, ltb-true, ltb-false}
 use Rattle.indexmap.specs.IndexMap.{IndexMap}
 use Rattle.ctr_page.specs.declared.rows.Place.{Place}
-use Rattle.ctr_directory.specs.Keys.{LeadsTo, with_key, over_slots}
+use Rattle.ctr_directory.specs.Keys.{KeysLead, with_key, over_slots}
 
 pub by_test : {X : Type 0} (b : Bool) → (b ≡ true → X) → (b ≡ false → X) → X
 by_test true = λ yes no. yes refl
@@ -17,7 +17,7 @@ same_place a b page slot =
     first ∙ second
 
 -- a map that leads by the same keys
-pub leads_same : {S : Type 0} (keys others : ℕ → ℕ → Option ℤ) (m : IndexMap ℤ Place S) → ((p n : ℕ) → others p n ≡ keys p n) → LeadsTo keys m → LeadsTo others m
+pub leads_same : {S : Type 0} (keys others : ℕ → ℕ → Option ℤ) (m : IndexMap ℤ Place S) → ((p n : ℕ) → others p n ≡ keys p n) → KeysLead keys m → KeysLead others m
 leads_same keys others m same leads k q = ((λ is. same q.page q.slot ∙ (leads k q).0 is), λ is. (leads k q).1 (sym (same q.page q.slot) ∙ is))
 
 -- a place that has the key already

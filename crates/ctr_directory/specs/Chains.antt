@@ -10,20 +10,20 @@ use Rattle.ctr_page.specs.Reading.{header_in}
 use Rattle.ctr_page.specs.Columns.{entry_at, first_in, columns_in, kinds_of}
 use Rattle.ctr_page.specs.Damage.{header_check, entry_check}
 use Rattle.ctr_directory.specs.declared.remembered.Remembered.{Remembered}
-use Rattle.ctr_directory.specs.Keys.{key_on, slots_of, SlotsPass, LeadsTo}
+use Rattle.ctr_directory.specs.Keys.{key_on, slots_of_kinds, SlotsPass, KeysLead}
 
--- by which checks the pages of a chain are read: the chain, the kinds of the columns behind the key,
--- and how many pages are counted
+-- by which checks the pages of a chain are read: the chain, the kinds of the columns behind the
+-- key, and how many pages are counted
 pub record Checks : Type 0 where
   pub chain : Chain
   pub kinds : List Kind
   pub counted : ℕ
 
 -- the header of a page passes, and each of its slots
-abbrev pub PagePasses : Checks → List ℕ → Type 0
-PagePasses c page =
+abbrev pub RowPagePasses : Checks → List ℕ → Type 0
+RowPagePasses c page =
     (header_check c.chain c.counted page ≡ Ok tt)
-    × SlotsPass c.kinds c.counted (slots_of c.kinds) page
+    × SlotsPass c.kinds c.counted (slots_of_kinds c.kinds) page
 
 -- From a page on a chain leads along these to another page, which isn't among them; 0 is the end.
 -- Each of them passes.
@@ -34,9 +34,9 @@ RunsAlong Passes pages p (q ∷ qs) end =
     × RunsAlong Passes pages (header_in (pages p)).next qs end
 
 -- whether a page is one of these
-abbrev pub has_page : ℕ → List ℕ → Bool
-has_page p [] = false
-has_page p (q ∷ qs) = if q == p then true else has_page p qs
+abbrev pub is_page_of : ℕ → List ℕ → Bool
+is_page_of p [] = false
+is_page_of p (q ∷ qs) = if q == p then true else is_page_of p qs
 
 -- What a page of the catalog says of a bucket, whose table's entry passes and isn't free: the kinds
 -- of the columns behind the key, and the first page.
@@ -64,52 +64,52 @@ checks_of counted b = record {
 -- the keys of the pages of a set
 abbrev pub keys_in : {S : Type 0} → IndexSet ℕ S → List Kind → (ℕ → List ℕ) → ℕ → ℕ → Option ℤ
 keys_in set kinds pages p n =
-    if contains nat_eq set p && nat_lt n (slots_of kinds) then key_on kinds n (pages p) else None
+    if contains nat_eq set p && nat_lt n (slots_of_kinds kinds) then key_on kinds n (pages p) else None
 
 -- A bucket is remembered as its pages are: what the catalog says of it; its chain from the head on
 -- along the pages that were read, which are no more than a chain can have; and where each of their
 -- keys stands.
-pub record IsBucket (counted : ℕ) (pages : ℕ → List ℕ) (b : Remembered) : Type 0 where
+pub record IsRememberedBucket (counted : ℕ) (pages : ℕ → List ℕ) (b : Remembered) : Type 0 where
   pub said : BucketSaid counted b.entry b.bucket (pages (1 + b.entry / 16)) (kinds_kept b) b.first
   pub chain : List ℕ
-  pub runs : RunsAlong (PagePasses (checks_of counted b)) pages b.head chain b.rest
+  pub runs : RunsAlong (RowPagePasses (checks_of counted b)) pages b.head chain b.rest
   pub few : length chain + 3 ≤ counted
   pub long : length chain ≡ index_set_len b.pages
-  pub there : (p : ℕ) → contains nat_eq b.pages p ≡ has_page p chain
-  pub leads : LeadsTo (keys_in b.pages (kinds_kept b) pages) b.places
+  pub there : (p : ℕ) → contains nat_eq b.pages p ≡ is_page_of p chain
+  pub leads : KeysLead (keys_in b.pages (kinds_kept b) pages) b.places
 
 -- what is remembered is exact
-abbrev pub IsKept : ℕ → (ℕ → List ℕ) → Remembered → Type 0
-IsKept counted pages b = b.known ≡ true → IsBucket counted pages b
+abbrev pub IsRemembered : ℕ → (ℕ → List ℕ) → Remembered → Type 0
+IsRemembered counted pages b = b.known ≡ true → IsRememberedBucket counted pages b
 
 -- ---- what it tells
 
 -- A key is found along a chain at its place, and at no other; or it isn't there.
 abbrev pub TellsKey : List Kind → (ℕ → List ℕ) → List ℕ → ℤ → Option Place → Type 0
 TellsKey kinds pages chain key found =
-    (at : Place) → (has_page at.page chain ≡ true) → at.slot < slots_of kinds
+    (at : Place) → (is_page_of at.page chain ≡ true) → at.slot < slots_of_kinds kinds
     → key_on kinds at.slot (pages at.page) ≡ Some key → found ≡ Some at
 
 -- where a place is told, it is one of the chain's, and has the key
-abbrev pub IsTold : List Kind → (ℕ → List ℕ) → List ℕ → ℤ → Option Place → Type 0
-IsTold kinds pages chain key None = Unit {0}
-IsTold kinds pages chain key (Some at) =
-    (has_page at.page chain ≡ true) × (at.slot < slots_of kinds)
+abbrev pub IsPlaceTold : List Kind → (ℕ → List ℕ) → List ℕ → ℤ → Option Place → Type 0
+IsPlaceTold kinds pages chain key None = Unit {0}
+IsPlaceTold kinds pages chain key (Some at) =
+    (is_page_of at.page chain ≡ true) × (at.slot < slots_of_kinds kinds)
     × (key_on kinds at.slot (pages at.page) ≡ Some key)
 
--- The whole chain of a bucket passes its checks, from the first page that the catalog says on to the
--- end; and a key is told of all of it.
+-- The whole chain of a bucket passes its checks, from the first page that the catalog says on to
+-- the end; and a key is told of all of it.
 pub record Knows (counted : ℕ) (pages : ℕ → List ℕ) (e bucket : ℕ) (key : ℤ) (found : Option Place)
     : Type 0 where
   pub kinds : List Kind
   pub first : ℕ
   pub chain : List ℕ
   pub said : BucketSaid counted e bucket (pages (1 + e / 16)) kinds first
-  pub runs : RunsAlong (PagePasses (record { chain = Rows e bucket; kinds = kinds; counted = counted }))
+  pub runs : RunsAlong (RowPagePasses (record { chain = Rows e bucket; kinds = kinds; counted = counted }))
       pages first chain 0
   pub few : length chain + 3 ≤ counted
   pub tells : TellsKey kinds pages chain key found
-  pub told : IsTold kinds pages chain key found
+  pub told : IsPlaceTold kinds pages chain key found
 
 -- one page has other bytes now
 pub record ChangesPage (number : ℕ) (before after : List ℕ) (a b : ℕ → List ℕ) : Type 0 where

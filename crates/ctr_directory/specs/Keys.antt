@@ -11,18 +11,18 @@ use Rattle.ctr_page.specs.Columns.{kinds_width, slot_start}
 use Rattle.ctr_page.specs.Damage.{slot_check}
 
 -- the key of a slot; none where it isn't used
-abbrev pub key_of : RowSlot → Option ℤ
-key_of slot = if slot.used == 1 then Some slot.key else None
+abbrev pub slot_key : RowSlot → Option ℤ
+slot_key slot = if slot.used == 1 then Some slot.key else None
 
 -- how many slots a page has, by the kinds of the columns behind the key
-abbrev pub slots_of : List Kind → ℕ
-slots_of kinds = room_for (slot_size (kinds_width kinds))
+abbrev pub slots_of_kinds : List Kind → ℕ
+slots_of_kinds kinds = room_for (slot_size (kinds_width kinds))
 
 -- the key of a slot of a page, by its number
 abbrev pub key_on : List Kind → ℕ → List ℕ → Option ℤ
-key_on kinds n page = key_of (slot_at (kinds_width kinds) n page)
+key_on kinds n page = slot_key (slot_at (kinds_width kinds) n page)
 
--- the same of a page as it was, which had no slots where it had no bytes
+-- The key of a slot of a page as it was, which had no slots where it had no bytes.
 abbrev pub key_before : List Kind → ℕ → List ℕ → Option ℤ
 key_before kinds n page = if length page == 0 then None else key_on kinds n page
 
@@ -33,8 +33,8 @@ SlotsPass kinds counted count page =
 
 -- Each key leads to the place that has it, and each place is led to by its key: so no key stands
 -- twice.
-abbrev pub LeadsTo : {S : Type 0} → (ℕ → ℕ → Option ℤ) → IndexMap ℤ Place S → Type 0
-LeadsTo keys places =
+abbrev pub KeysLead : {S : Type 0} → (ℕ → ℕ → Option ℤ) → IndexMap ℤ Place S → Type 0
+KeysLead keys places =
     (key : ℤ) (at : Place) → (get int_eq places key ≡ Some at) ↔ (keys at.page at.slot ≡ Some key)
 
 -- the keys, but for one place

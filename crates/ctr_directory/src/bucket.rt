@@ -4,8 +4,8 @@ ghost use Rattle.indexmap.specs.IndexSet.{contains, index_set_len};
 ghost use Rattle.ctr_page.specs.declared.checks.Chain.TheVariants.{Rows};
 ghost use Rattle.ctr_page.specs.declared.table.TheConstants.{PAGE_SIZE};
 ghost use Rattle.ctr_page.specs.Reading.{header_in};
-ghost use Rattle.ctr_directory.specs.Chains.{kinds_kept, checks_of, keys_in, BucketSaid, IsBucket, IsKept, PagePasses, Knows, ChangesPage};
-ghost use Rattle.ctr_directory.specs.Keys.{LeadsTo};
+ghost use Rattle.ctr_directory.specs.Chains.{kinds_kept, checks_of, keys_in, BucketSaid, IsRememberedBucket, IsRemembered, RowPagePasses, Knows, ChangesPage};
+ghost use Rattle.ctr_directory.specs.Keys.{KeysLead};
 
 use crate::remembered::Remembered;
 use crate::slots::renew;
@@ -76,7 +76,7 @@ impl Remembered {
         requires some { 4 ≤ counted }
         requires there { (entry < 32) × (bucket < 8) }
         requires whole { length page.now ≡ PAGE_SIZE }
-        ensures { (pages : ℕ → List ℕ) → pages (1 + entry / 16) ≡ page.now → IsKept counted pages self.new }
+        ensures { (pages : ℕ → List ℕ) → pages (1 + entry / 16) ≡ page.now → IsRemembered counted pages self.new }
     {
         self.forget();
         let Some(said) = read_said(entry, bucket, counted, page) else {
@@ -115,11 +115,11 @@ impl Remembered {
         requires some { 4 ≤ counted }
         requires whole { length page.now ≡ PAGE_SIZE }
         ensures next { IfSome result (λ next. next ≡ (header_in page.now).next) }
-        ensures passes { IfSome result (λ _. PagePasses (checks_of counted self.old) page.now) }
+        ensures passes { IfSome result (λ _. RowPagePasses (checks_of counted self.old) page.now) }
         ensures added { IfSome result (λ _. (q : ℕ) → contains nat_eq self.new.pages q ≡ (if number == q then true else contains nat_eq self.old.pages q)) }
         ensures long { IfSome result (λ _. (index_set_len self.new.pages ≡ index_set_len self.old.pages + 1) × (index_set_len self.new.pages + 3 ≤ counted)) }
-        ensures leads { IfSome result (λ _. (pages : ℕ → List ℕ) → pages number ≡ page.now → LeadsTo (keys_in self.old.pages (kinds_kept self.old) pages) self.old.places
-            → LeadsTo (keys_in self.new.pages (kinds_kept self.old) pages) self.new.places) }
+        ensures leads { IfSome result (λ _. (pages : ℕ → List ℕ) → pages number ≡ page.now → KeysLead (keys_in self.old.pages (kinds_kept self.old) pages) self.old.places
+            → KeysLead (keys_in self.new.pages (kinds_kept self.old) pages) self.new.places) }
         ensures same { self.new ≡ record self.old { pages = self.new.pages; places = self.new.places } }
     {
         if check_header(self.chain(), counted, page).is_err() {
@@ -151,7 +151,7 @@ impl Remembered {
         requires some { 4 ≤ counted }
         requires whole { length page.now ≡ PAGE_SIZE }
         requires first { self.old.first ≢ 0 }
-        ensures { (pages : ℕ → List ℕ) → pages self.old.first ≡ page.now → result ≡ true → IsBucket counted pages self.old → IsBucket counted pages self.new }
+        ensures { (pages : ℕ → List ℕ) → pages self.old.first ≡ page.now → result ≡ true → IsRememberedBucket counted pages self.old → IsRememberedBucket counted pages self.new }
     {
         let number = self.first;
         match self.take_page(number, counted, page) {
@@ -168,7 +168,7 @@ impl Remembered {
         requires some { 4 ≤ counted }
         requires whole { length page.now ≡ PAGE_SIZE }
         requires rest { self.old.rest ≢ 0 }
-        ensures { (pages : ℕ → List ℕ) → pages self.old.rest ≡ page.now → result ≡ true → IsBucket counted pages self.old → IsBucket counted pages self.new }
+        ensures { (pages : ℕ → List ℕ) → pages self.old.rest ≡ page.now → result ≡ true → IsRememberedBucket counted pages self.old → IsRememberedBucket counted pages self.new }
     {
         let number = self.rest;
         match self.take_page(number, counted, page) {
@@ -199,7 +199,7 @@ impl Remembered {
     fn put(&mut self, number: PageNo, counted: u32, page: &[u8]) -> bool
         requires some { 4 ≤ counted }
         requires whole { length page.now ≡ PAGE_SIZE }
-        ensures { (pages : ℕ → List ℕ) → pages number ≡ page.now → result ≡ true → IsBucket counted pages self.old → IsBucket counted pages self.new }
+        ensures { (pages : ℕ → List ℕ) → pages number ≡ page.now → result ≡ true → IsRememberedBucket counted pages self.old → IsRememberedBucket counted pages self.new }
     {
         if number == 0 {
             return false;
@@ -214,7 +214,7 @@ impl Remembered {
     pub fn add(&mut self, number: PageNo, counted: u32, page: &[u8])
         requires some { 4 ≤ counted }
         requires whole { length page.now ≡ PAGE_SIZE }
-        ensures { (pages : ℕ → List ℕ) → pages number ≡ page.now → IsKept counted pages self.old → IsKept counted pages self.new }
+        ensures { (pages : ℕ → List ℕ) → pages number ≡ page.now → IsRemembered counted pages self.old → IsRemembered counted pages self.new }
     {
         if !self.known {
             return;
@@ -231,7 +231,7 @@ impl Remembered {
         requires there { contains nat_eq self.old.pages number ≡ true }
         ensures { (a b : ℕ → List ℕ) (first : ℕ) → ChangesPage number before.now page.now a b → result ≡ true
             → BucketSaid counted self.old.entry self.old.bucket (b (1 + self.old.entry / 16)) (kinds_kept self.old) self.old.first
-            → IsBucket counted a (record self.old { first = first }) → IsBucket counted b self.new }
+            → IsRememberedBucket counted a (record self.old { first = first }) → IsRememberedBucket counted b self.new }
     {
         let Ok(()) = check_header(self.chain(), counted, page) else {
             return false;
@@ -264,7 +264,7 @@ impl Remembered {
     fn keep(&mut self, number: PageNo, counted: u32, before: &[u8], page: &[u8]) -> bool
         requires some { 4 ≤ counted }
         requires whole { (length before.now ≡ PAGE_SIZE) × (length page.now ≡ PAGE_SIZE) }
-        ensures { (a b : ℕ → List ℕ) → ChangesPage number before.now page.now a b → result ≡ true → IsBucket counted a self.old → IsBucket counted b self.new }
+        ensures { (a b : ℕ → List ℕ) → ChangesPage number before.now page.now a b → result ≡ true → IsRememberedBucket counted a self.old → IsRememberedBucket counted b self.new }
     {
         if !self.reread_at(number, counted, page) {
             return false;
@@ -279,7 +279,7 @@ impl Remembered {
     pub fn changed(&mut self, number: PageNo, counted: u32, before: &[u8], page: &[u8])
         requires some { 4 ≤ counted }
         requires whole { (length before.now ≡ PAGE_SIZE) × (length page.now ≡ PAGE_SIZE) }
-        ensures { (a b : ℕ → List ℕ) → ChangesPage number before.now page.now a b → IsKept counted a self.old → IsKept counted b self.new }
+        ensures { (a b : ℕ → List ℕ) → ChangesPage number before.now page.now a b → IsRemembered counted a self.old → IsRemembered counted b self.new }
     {
         if !self.known {
             return;
@@ -291,7 +291,7 @@ impl Remembered {
 
     /// The place of a key, or that no slot of the bucket has it; none where not all of its chain is remembered.
     pub fn find(&self, key: i64) -> Option<Option<Place>>
-        ensures { (counted : ℕ) (pages : ℕ → List ℕ) → IsKept counted pages self.now → IfSome result (Knows counted pages self.now.entry self.now.bucket key) }
+        ensures { (counted : ℕ) (pages : ℕ → List ℕ) → IsRemembered counted pages self.now → IfSome result (Knows counted pages self.now.entry self.now.bucket key) }
     {
         if !self.known || self.head != self.first || self.rest != 0 {
             return None;

@@ -3,7 +3,7 @@ ghost use Rattle.std.specs.Prelude.{◌≡◌, ◌≤◌, ◌<◌, ◌+◌, ◌/
 ghost use Rattle.ctr_page.specs.declared.table.TheConstants.{PAGE_SIZE};
 ghost use Rattle.ctr_page.specs.Places.{bucket_of as bucket_by};
 ghost use Rattle.ctr_directory.specs.Exact.{IsExact};
-ghost use Rattle.ctr_directory.specs.Chains.{IsKept, Knows, ChangesPage};
+ghost use Rattle.ctr_directory.specs.Chains.{IsRemembered, Knows, ChangesPage};
 
 use crate::remembered::Remembered;
 use ctr_page::{Place, bucket_of};

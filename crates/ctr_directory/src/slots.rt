@@ -4,7 +4,7 @@ ghost use Rattle.ctr_rec.specs.types_Kind.{Kind};
 ghost use Rattle.ctr_page.specs.declared.table.TheConstants.{PAGE_SIZE};
 ghost use Rattle.ctr_page.specs.Places.{slot_size as size_of_slot, start_of as start_place};
 ghost use Rattle.ctr_page.specs.Columns.{kinds_width as width_of_kinds};
-ghost use Rattle.ctr_directory.specs.Keys.{key_on as key_there, key_before as key_there_before, slots_of, LeadsTo, with_key, over_slots, SlotsPass};
+ghost use Rattle.ctr_directory.specs.Keys.{key_on as key_there, key_before as key_there_before, slots_of_kinds, KeysLead, with_key, over_slots, SlotsPass};
 ghost use Rattle.ctr_page.specs.Columns.{slot_start};
 ghost use Rattle.ctr_page.specs.Damage.{slot_check};
 
@@ -20,7 +20,7 @@ pub struct Unkept;
 fn key_on(kinds: &[Kind], slot: u16, page: &[u8]) -> Option<i64>
     requires few { length kinds.now ≤ 7 }
     requires whole { length page.now ≡ PAGE_SIZE }
-    requires there { slot < slots_of kinds.now }
+    requires there { slot < slots_of_kinds kinds.now }
     ensures { result ≡ key_there kinds.now slot page.now }
 {
     let row = read_slot(page, kinds_width(kinds), slot);
@@ -34,7 +34,7 @@ fn key_on(kinds: &[Kind], slot: u16, page: &[u8]) -> Option<i64>
 fn key_before(kinds: &[Kind], slot: u16, before: &[u8]) -> Option<i64>
     requires few { length kinds.now ≤ 7 }
     requires whole { length before.now ≢ 0 → length before.now ≡ PAGE_SIZE }
-    requires there { slot < slots_of kinds.now }
+    requires there { slot < slots_of_kinds kinds.now }
     ensures { result ≡ key_there_before kinds.now slot before.now }
 {
     if before.is_empty() {
@@ -46,21 +46,21 @@ fn key_before(kinds: &[Kind], slot: u16, before: &[u8]) -> Option<i64>
 /// How many slots a page has.
 fn slots_on(kinds: &[Kind]) -> u16
     requires few { length kinds.now ≤ 7 }
-    ensures { result ≡ slots_of kinds.now }
+    ensures { result ≡ slots_of_kinds kinds.now }
 {
     room_for(slot_size(kinds_width(kinds))) as u16
 }
 
 /// Takes a key out that a place has.
 fn drop_key(places: &mut IndexMap<i64, Place>, at: Place, key: i64)
-    ensures { (keys : ℕ → ℕ → Option ℤ) → LeadsTo keys places.old → keys at.page at.slot ≡ Some key → LeadsTo (with_key at None keys) places.new }
+    ensures { (keys : ℕ → ℕ → Option ℤ) → KeysLead keys places.old → keys at.page at.slot ≡ Some key → KeysLead (with_key at None keys) places.new }
 {
     let _ = places.swap_remove(&key);
 }
 
 /// Puts a key in at a place that has none.
 fn add_key(places: &mut IndexMap<i64, Place>, at: Place, key: i64) -> Result<(), Unkept>
-    ensures { (keys : ℕ → ℕ → Option ℤ) → LeadsTo keys places.old → keys at.page at.slot ≡ None → OnOk result (LeadsTo (with_key at (Some key) keys) places.new) }
+    ensures { (keys : ℕ → ℕ → Option ℤ) → KeysLead keys places.old → keys at.page at.slot ≡ None → OnOk result (KeysLead (with_key at (Some key) keys) places.new) }
 {
     match places.insert(key, at) {
         Ok(None) => Ok(()),
@@ -82,7 +82,7 @@ fn is_same(a: Option<i64>, b: Option<i64>) -> bool
 
 /// Takes the key out that a place has, if any.
 fn clear_key(places: &mut IndexMap<i64, Place>, at: Place, before: Option<i64>)
-    ensures { (keys : ℕ → ℕ → Option ℤ) → LeadsTo keys places.old → keys at.page at.slot ≡ before → LeadsTo (with_key at None keys) places.new }
+    ensures { (keys : ℕ → ℕ → Option ℤ) → KeysLead keys places.old → keys at.page at.slot ≡ before → KeysLead (with_key at None keys) places.new }
 {
     if let Some(key) = before {
         drop_key(places, at, key);
@@ -91,7 +91,7 @@ fn clear_key(places: &mut IndexMap<i64, Place>, at: Place, before: Option<i64>)
 
 /// Puts a key in, if any, at a place that has none.
 fn fill_key(places: &mut IndexMap<i64, Place>, at: Place, after: Option<i64>) -> Result<(), Unkept>
-    ensures { (keys : ℕ → ℕ → Option ℤ) → LeadsTo keys places.old → keys at.page at.slot ≡ None → OnOk result (LeadsTo (with_key at after keys) places.new) }
+    ensures { (keys : ℕ → ℕ → Option ℤ) → KeysLead keys places.old → keys at.page at.slot ≡ None → OnOk result (KeysLead (with_key at after keys) places.new) }
 {
     match after {
         None => Ok(()),
@@ -106,7 +106,7 @@ fn set_key(
     before: Option<i64>,
     after: Option<i64>,
 ) -> Result<(), Unkept>
-    ensures { (keys : ℕ → ℕ → Option ℤ) → LeadsTo keys places.old → keys at.page at.slot ≡ before → OnOk result (LeadsTo (with_key at after keys) places.new) }
+    ensures { (keys : ℕ → ℕ → Option ℤ) → KeysLead keys places.old → keys at.page at.slot ≡ before → OnOk result (KeysLead (with_key at after keys) places.new) }
 {
     if is_same(before, after) {
         return Ok(());
@@ -128,10 +128,10 @@ fn renew_slot(
     requires few { length kinds.now ≤ 7 }
     requires whole { length page.now ≡ PAGE_SIZE }
     requires was { length before.now ≢ 0 → length before.now ≡ PAGE_SIZE }
-    requires there { at.slot < slots_of kinds.now }
+    requires there { at.slot < slots_of_kinds kinds.now }
     ensures checked { OnOk result (slot_check kinds.now counted (slot_start kinds.now at.slot) page.now ≡ Ok tt) }
-    ensures leads { (keys : ℕ → ℕ → Option ℤ) → LeadsTo keys places.old → keys at.page at.slot ≡ key_there_before kinds.now at.slot before.now
-        → OnOk result (LeadsTo (with_key at (key_there kinds.now at.slot page.now) keys) places.new) }
+    ensures leads { (keys : ℕ → ℕ → Option ℤ) → KeysLead keys places.old → keys at.page at.slot ≡ key_there_before kinds.now at.slot before.now
+        → OnOk result (KeysLead (with_key at (key_there kinds.now at.slot page.now) keys) places.new) }
 {
     if check_slot(kinds, counted, at.slot, page).is_err() {
         return Err(Unkept);
@@ -154,9 +154,9 @@ pub fn renew(
     requires few { length kinds.now ≤ 7 }
     requires whole { length page.now ≡ PAGE_SIZE }
     requires was { length before.now ≢ 0 → length before.now ≡ PAGE_SIZE }
-    ensures checked { OnOk result (SlotsPass kinds.now counted (slots_of kinds.now) page.now) }
-    ensures leads { (keys : ℕ → ℕ → Option ℤ) → LeadsTo keys places.old → ((n : ℕ) → n < slots_of kinds.now → keys number n ≡ key_there_before kinds.now n before.now)
-        → OnOk result (LeadsTo (over_slots number (slots_of kinds.now) (λ n. key_there kinds.now n page.now) keys) places.new) }
+    ensures checked { OnOk result (SlotsPass kinds.now counted (slots_of_kinds kinds.now) page.now) }
+    ensures leads { (keys : ℕ → ℕ → Option ℤ) → KeysLead keys places.old → ((n : ℕ) → n < slots_of_kinds kinds.now → keys number n ≡ key_there_before kinds.now n before.now)
+        → OnOk result (KeysLead (over_slots number (slots_of_kinds kinds.now) (λ n. key_there kinds.now n page.now) keys) places.new) }
 {
     let count = slots_on(kinds);
     for slot in 0..count {

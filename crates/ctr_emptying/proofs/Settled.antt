@@ -18,21 +18,21 @@ use Rattle.ctr_record_laws.proofs.Ends.{steps, page_goes_on}
 use Rattle.ctr_record_laws.proofs.Members.{among_flat}
 use Rattle.ctr_cursor.specs.reading_Gathering.{IsBucketPage}
 use Rattle.ctr_cursor.proofs.reading_Places.{page_slot}
-use Rattle.ctr_emptying.specs.Looking.{is_settled, place_of, SettledSaid, FrontSaid}
+use Rattle.ctr_emptying.specs.Looking.{is_settled, place_at_slot, SettledSaid, FrontSaid}
 
 module _ (tables : Tables) (area : Area) (p : ℕ) where
   -- the slots before one of them are settled
   abbrev pub AreSettledTo : ℕ → Type 0
-  AreSettledTo n = (k : ℕ) → k < n → is_settled tables (area.slot (place_of p k)) ≡ true
+  AreSettledTo n = (k : ℕ) → k < n → is_settled tables (area.slot (place_at_slot p k)) ≡ true
 
   pub none_yet : AreSettledTo 0
   none_yet k lt = absurd (omega (arith, lt))
 
-  pub one_more : (n m : ℕ) → m ≡ n + 1 → true ≡ is_settled tables (area.slot (place_of p n)) → AreSettledTo n → AreSettledTo m
+  pub one_more : (n m : ℕ) → m ≡ n + 1 → true ≡ is_settled tables (area.slot (place_at_slot p n)) → AreSettledTo n → AreSettledTo m
   one_more n m next here before k lt = by (k == n) refl
     where
-      by : (b : Bool) → (k == n) ≡ b → is_settled tables (area.slot (place_of p k)) ≡ true
-      by true is = subst (λ j. is_settled tables (area.slot (place_of p j)) ≡ true) (sym (eqb-true k n is)) (sym here)
+      by : (b : Bool) → (k == n) ≡ b → is_settled tables (area.slot (place_at_slot p k)) ≡ true
+      by true is = subst (λ j. is_settled tables (area.slot (place_at_slot p j)) ≡ true) (sym (eqb-true k n is)) (sym here)
       by false apart = before k (less (eqb-false k n apart))
         where
           less : (k ≡ n → ⊥) → k < n
@@ -86,8 +86,8 @@ settled_owes tables area e b p dead there (some, is, all) = record {
       (subst (λ (a : Place). is_settled tables (area.slot a) ≡ true) (place_is at on) (all at.slot (subst (λ q. at.slot < area.room q) on (slot_on area e at used))));
 }
   where
-    place_is : (at : Place) → at.page ≡ p → place_of p at.slot ≡ at
-    place_is at on = ap (λ q. place_of q at.slot) (sym on)
+    place_is : (at : Place) → at.page ≡ p → place_at_slot p at.slot ≡ at
+    place_is at on = ap (λ q. place_at_slot q at.slot) (sym on)
 
 -- where a bucket of a database has none, or its first page has a head that isn't committed, no page may leave it
 pub none_owes : (s : State) (e b : ℕ) → IsDatabaseState s → FrontSaid s.tables (area_in s) e b None → (p : ℕ) → OwedByUnlink s.tables (area_in s) p e b → ⊥
@@ -99,9 +99,9 @@ none_owes s e b database (inr (some, said)) p owes =
     let area = area_in s in
     let n = said.0 in
     let q = first_page area e b in
-    let slot = unsettled (area.slot (place_of q n)).used (is_committed_in s.tables (area.slot (place_of q n)).head.0) said.2 in
+    let slot = unsettled (area.slot (place_at_slot q n)).used (is_committed_in s.tables (area.slot (place_at_slot q n)).head.0) said.2 in
     let among = page_slot (Rows e b) q s n (front_page s e b q database some refl) said.1 in
-    true≢false (sym (owes.heads (place_of q n) (among, slot.0) owes.first) ∙ slot.1)
+    true≢false (sym (owes.heads (place_at_slot q n) (among, slot.0) owes.first) ∙ slot.1)
 
 -- a dead table has eight buckets
 pub eight_there : (s : State) (e b : ℕ) → ((area_in s).title e).state ≡ 2 → (((area_in s).title e).state ≢ 0 → length ((area_in s).firsts e).buckets ≡ 8) → b < 8 → b < length ((area_in s).firsts e).buckets

@@ -23,15 +23,15 @@ abbrev pub is_settled : Tables → Slot → Bool
 is_settled tables slot = not slot.used || is_committed_in tables slot.head.0
 
 -- a place of a page
-abbrev pub place_of : ℕ → ℕ → Place
-place_of p n = record { page = p; slot = n }
+abbrev pub place_at_slot : ℕ → ℕ → Place
+place_at_slot p n = record { page = p; slot = n }
 
 -- all slots of a page are so; or one isn't
 abbrev pub SettledSaid : Tables → Area → ℕ → Bool → Type 0
 SettledSaid tables area p true =
-    (n : ℕ) → n < area.room p → is_settled tables (area.slot (place_of p n)) ≡ true
+    (n : ℕ) → n < area.room p → is_settled tables (area.slot (place_at_slot p n)) ≡ true
 SettledSaid tables area p false =
-    (n : ℕ) × (n < area.room p) × (is_settled tables (area.slot (place_of p n)) ≡ false)
+    (n : ℕ) × (n < area.room p) × (is_settled tables (area.slot (place_at_slot p n)) ≡ false)
 
 -- The first page of a bucket is this one, and all its slots are so; or the bucket has none, or its
 -- first page has a slot that isn't.

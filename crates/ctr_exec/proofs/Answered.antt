@@ -13,12 +13,12 @@ use Rattle.ctr_store.specs.Store.{View}
 use Rattle.ctr_control.specs.kept_Turns.{Start, entry_of, point_now, start_point, state_now}
 use Rattle.ctr_control.specs.txn_Held.{IsOneOfEight}
 use Rattle.ctr_control.specs.ctr_session_world.World.{SessionsHeld}
-use Rattle.ctr_control.specs.ctr_session_world.Told.{IsNextOf, IsTold}
+use Rattle.ctr_control.specs.ctr_session_world.Told.{IsNextOf, IsActTold}
 use Rattle.ctr_exec.proofs.Points.{last_comes}
 use Rattle.ctr_exec.proofs.Replies.{asks_alone}
 
 module _ {D : Type 0} (g : Ghosts D) (c : Start) (opened : D) (a b : View D) (h : SessionsHeld) (s : ℕ) (one : IsOneOfEight s) (statement : Statement) (made : ℕ) (next : IsNextOf g c opened a b h s statement made)
-    (now : SessionsHeld) (x : Act) (r : Reply) (told : IsTold next now x r) where
+    (now : SessionsHeld) (x : Act) (r : Reply) (told : IsActTold next now x r) where
   abbrev e : Entry
   e = entry_of s next.e x r
 

@@ -28,7 +28,7 @@ use Rattle.ctr_exec.specs.declared.runners.Stage.TheVariants as stage
 use Rattle.ctr_exec.specs.declared.sessions.Sessions.{Sessions}
 use Rattle.ctr_exec.specs.Runners.{made_at, after_act, runner_at}
 use Rattle.ctr_exec.specs.Acting.{WantsRoom}
-use Rattle.ctr_exec.specs.Sessions.{AreAnswers, AreSeated, ShowsSessions, LeadsTo, held_by, noted}
+use Rattle.ctr_exec.specs.Sessions.{AreAnswers, AreSeated, ShowsSessions, LeadsTo, sessions_held_by, noted_entry}
 use Rattle.ctr_exec.proofs.Points.{act_ends, answered_gone, last_comes, state_is}
 use Rattle.ctr_exec.proofs.Shown.{RowsStay, idle_for}
 use Rattle.ctr_exec.proofs.Entered.{its_act, state_told, shows_told}
@@ -39,9 +39,9 @@ someone None k is = absurd (false≢true (ap is_some is))
 someone (Some t) k is = (t, refl)
 
 module _ {D : Type 0} (g : Ghosts D) (c : Start) (opened : D) (v : View D) (h now : Sessions) (w : Mind) (before : ShowsSessions g c opened v h w) (s : ℕ) (asked : Asked) (one : IsOneOfEight s)
-    (answered : IsAnswered {h = held_by h} (record { mind = w; world = before.world }) (s, asked) (held_by now)) (m : ℕ) (seats : AreSeated h m) (sound : IsSoundState (state_now c w)) (rows : RowsStay) (views : SnapshotsStay)
+    (answered : IsAnswered {h = sessions_held_by h} (record { mind = w; world = before.world }) (s, asked) (sessions_held_by now)) (m : ℕ) (seats : AreSeated h m) (sound : IsSoundState (state_now c w)) (rows : RowsStay) (views : SnapshotsStay)
     (script : now.script ≡ h.script) (stuck : now.stuck ≡ h.stuck) (runners : now.runners.items ≡ slice_set h.runners.items (s - 1) (after_act stage.Between (runner_at s h.runners.items)))
-    (tape : now.tape.items ≡ h.tape.items ++ noted s (runner_at s h.runners.items) act.Answer (reply.Answered asked.k) (g.moment_of v.disk) ∷ []) where
+    (tape : now.tape.items ≡ h.tape.items ++ noted_entry s (runner_at s h.runners.items) act.Answer (reply.Answered asked.k) (g.moment_of v.disk) ∷ []) where
   abbrev mine : Runner
   mine = runner_at s h.runners.items
 
@@ -49,7 +49,7 @@ module _ {D : Type 0} (g : Ghosts D) (c : Start) (opened : D) (v : View D) (h no
   u = answered.mind
 
   abbrev e : Entry
-  e = noted s mine act.Answer (reply.Answered asked.k) (g.moment_of v.disk)
+  e = noted_entry s mine act.Answer (reply.Answered asked.k) (g.moment_of v.disk)
 
   same : answer_by (point_now c w) (g.moment_of v.disk) (s, asked) ≡ e
   same = λ i. record e { statement = ((before.each s one).progress i).finished + 1 }

@@ -24,20 +24,20 @@ use Rattle.ctr_exec.specs.declared.runners.Stage.{Stage}
 use Rattle.ctr_exec.specs.declared.sessions.Sessions.{Sessions}
 use Rattle.ctr_exec.specs.Acting.{IsMidway}
 use Rattle.ctr_exec.specs.Runners.{made_at, finished_with, after_act, runner_at}
-use Rattle.ctr_exec.specs.Sessions.{AreSeated, IsSeatedAt, ShowsSessions, held_by, noted}
+use Rattle.ctr_exec.specs.Sessions.{AreSeated, IsSeatedAt, ShowsSessions, sessions_held_by, noted_entry}
 use Rattle.ctr_exec.proofs.Points.{last_comes, never_released, same_stuck, progress_mine, state_is}
 use Rattle.ctr_exec.proofs.Seats.{its, theirs}
 use Rattle.ctr_exec.proofs.Shown.{RowsStay, next_point, others_told}
 
 module _ {D : Type 0} (g : Ghosts D) (c : Start) (opened : D) (b : View D) (h now : Sessions) (w : Mind) (before : (q : ℕ) → IsOneOfEight q → IsSeatedAt c w q (runner_at q h.runners.items)) (s : ℕ) (one : IsOneOfEight s)
     (statement : Statement) (there : statement_of c.lines s ((runner_at s h.runners.items).finished + 1) ≡ Some statement) (sound : IsSoundState (state_now c w)) (rows : RowsStay) (views : SnapshotsStay)
-    (x : Act) (r : Reply) (u : Mind) (world : InWorld g c opened b (held_by now) u) (longer : u.tape ≡ w.tape ++ noted s (runner_at s h.runners.items) x r (g.moment_of b.disk) ∷ [])
+    (x : Act) (r : Reply) (u : Mind) (world : InWorld g c opened b (sessions_held_by now) u) (longer : u.tape ≡ w.tape ++ noted_entry s (runner_at s h.runners.items) x r (g.moment_of b.disk) ∷ [])
     (facts : (q : ℕ) → (q == s) ≡ false → u.facts q ≡ w.facts q) where
   abbrev mine : Runner
   mine = runner_at s h.runners.items
 
   abbrev e : Entry
-  e = noted s mine x r (g.moment_of b.disk)
+  e = noted_entry s mine x r (g.moment_of b.disk)
 
   legal : Legal c.lines (start_point c) (w.tape ++ e ∷ [])
   legal = subst (Legal c.lines (start_point c)) longer world.keeps.walks.legal

@@ -21,7 +21,7 @@ use Rattle.ctr_exec.specs.declared.runners.Stage.TheVariants as stage
 use Rattle.ctr_exec.specs.declared.sessions.Sessions.{Sessions}
 use Rattle.ctr_exec.specs.Runners.{made_at, runner_at}
 use Rattle.ctr_exec.proofs.Answering.{answers_want}
-use Rattle.ctr_exec.specs.Sessions.{AreAnswers, AreOfTurn, AreSeated, DoesTurn, LeadsTo, LeavesSeats, OrFails, ShowsSessions, TakesAct, TakesTurn, held_by}
+use Rattle.ctr_exec.specs.Sessions.{AreAnswers, AreOfTurn, AreSeated, DoesTurn, LeadsTo, LeavesSeats, OrFails, ShowsSessions, TakesAct, TakesTurn, sessions_held_by}
 
 -- in a World the state that the tape has reached is sound
 pub sound_in : {D : Type 0} (g : Ghosts D) (c : Start) (opened : D) (v : View D) (h : Sessions) (w : Mind) → LegalStatesAreSound → ShowsSessions g c opened v h w → IsSoundState (state_now c w)
@@ -48,11 +48,11 @@ seats_kept h a b keeps going stand seats = record {
 }
 
 -- a World is shown behind a call that tells nothing
-pub shows_behind : {D : Type 0} (g : Ghosts D) (c : Start) (opened : D) (a b : View D) (h : Sessions) (w : Mind) → ShowsSessions g c opened a h w → InWorld g c opened b (held_by h) w → ShowsSessions g c opened b h w
+pub shows_behind : {D : Type 0} (g : Ghosts D) (c : Start) (opened : D) (a b : View D) (h : Sessions) (w : Mind) → ShowsSessions g c opened a h w → InWorld g c opened b (sessions_held_by h) w → ShowsSessions g c opened b h w
 shows_behind g c opened a b h w before world = record { world = world; lines = before.lines; tape = before.tape; stuck = before.stuck; each = before.each }
 
 -- so a turn goes on that tells nothing
-pub goes_quiet : {D : Type 0} (g : Ghosts D) (c : Start) (opened : D) (a b : View D) (h : Sessions) (w : Mind) (s : ℕ) (before : ShowsSessions g c opened a h w) → b.now ≡ a.now → InWorld g c opened b (held_by h) w → LeadsTo before (AreOfTurn s) b h
+pub goes_quiet : {D : Type 0} (g : Ghosts D) (c : Start) (opened : D) (a b : View D) (h : Sessions) (w : Mind) (s : ℕ) (before : ShowsSessions g c opened a h w) → b.now ≡ a.now → InWorld g c opened b (sessions_held_by h) w → LeadsTo before (AreOfTurn s) b h
 goes_quiet g c opened a b h w s before pages world = record {
   mind = w;
   shows = shows_behind g c opened a b h w before world;
@@ -66,7 +66,7 @@ goes_quiet g c opened a b h w s before pages world = record {
 }
 
 -- and one that answers commits behind it
-pub goes_answered : {D : Type 0} (g : Ghosts D) (c : Start) (opened : D) (a b : View D) (h now : Sessions) (w : Mind) (s : ℕ) (before : ShowsSessions g c opened a h w) (pages : b.now ≡ a.now) (world : InWorld g c opened b (held_by h) w)
+pub goes_answered : {D : Type 0} (g : Ghosts D) (c : Start) (opened : D) (a b : View D) (h now : Sessions) (w : Mind) (s : ℕ) (before : ShowsSessions g c opened a h w) (pages : b.now ≡ a.now) (world : InWorld g c opened b (sessions_held_by h) w)
     → LeadsTo (shows_behind g c opened a b h w before world) AreAnswers b now → LeadsTo before (AreOfTurn s) b now
 goes_answered g c opened a b h now w s before pages world goes = record {
   mind = goes.mind;
@@ -101,7 +101,7 @@ act_takes g c opened a b h now w s before unasked room (Err e) failed = failed
 
 -- a turn for room
 pub room_takes : {D T : Type 0} (g : Ghosts D) (c : Start) (opened : D) (a b : View D) (h : Sessions) (w : Mind) (s : ℕ) (before : ShowsSessions g c opened a h w) → ((runner_at s h.runners.items).stage ≡ stage.Asked → ⊥) → (HasTurnRoom a → ⊥) → (result : Result T StoreFault)
-    → OnOk result (b.now ≡ a.now) → OnOk result (InWorld g c opened b (held_by h) w) → OnOk result (turns_for_room b ≡ turns_for_room a - 1) → OnErr result (result ≡ Err Fault) → OrFails (TakesTurn before s b h) result
+    → OnOk result (b.now ≡ a.now) → OnOk result (InWorld g c opened b (sessions_held_by h) w) → OnOk result (turns_for_room b ≡ turns_for_room a - 1) → OnErr result (result ≡ Err Fault) → OrFails (TakesTurn before s b h) result
 room_takes g c opened a b h w s before unasked none (Ok x) pages kept nearer refused =
     (goes_quiet g c opened a b h w s before pages kept, record { acts = λ has room. absurd (none room); rolls = λ has room at_it. absurd (none room); nearer = λ has n. nearer; answers = λ waits. absurd (unasked waits) })
 room_takes g c opened a b h w s before unasked none (Err e) pages kept nearer refused = cc refused

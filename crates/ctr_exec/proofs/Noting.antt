@@ -11,7 +11,7 @@ use Rattle.ctr_exec.specs.declared.runners.Runner.{Runner}
 use Rattle.ctr_exec.specs.declared.runners.Stage.TheVariants as stage
 use Rattle.ctr_exec.specs.declared.sessions.Sessions.{Sessions}
 use Rattle.ctr_exec.specs.Runners.{runner_at, vacant}
-use Rattle.ctr_exec.specs.Sessions.{AreSeated, entries_by, held_by, runner_by}
+use Rattle.ctr_exec.specs.Sessions.{AreSeated, entries_by, sessions_held_by, runner_by}
 use Rattle.ctr_exec.proofs.Seats.{entries_taken, inside_here, runner_taken, set_twice}
 
 -- what holds of each holds of the one at a place
@@ -46,8 +46,8 @@ module _ (h mid now : Sessions) (m : ℕ) (seats : AreSeated h m) (s : ℕ) (one
   pub txns_now : now.txns ≡ txns
   txns_now = ap (λ (z : Sessions). z.txns) is
 
-  pub held_now : held_by now ≡ record { txns = txns; locks = locks }
-  held_now = ap held_by is
+  pub held_now : sessions_held_by now ≡ record { txns = txns; locks = locks }
+  held_now = ap sessions_held_by is
 
   pub runners_now : now.runners.items ≡ slice_set h.runners.items (s - 1) (runner_by l mine)
   runners_now = runners ∙ (λ i. slice_set (taken i) (s - 1) (runner_by l (its i))) ∙ set_twice h.runners.items (s - 1) out (runner_by l out) ∙ ap (slice_set h.runners.items (s - 1)) (runner_taken l mine)

@@ -32,9 +32,9 @@ use Rattle.ctr_exec.specs.declared.runners.Stage.{Stage}
 use Rattle.ctr_exec.specs.declared.runners.Stage.TheVariants as stage
 use Rattle.ctr_exec.specs.declared.sessions.Sessions.{Sessions}
 use Rattle.ctr_exec.specs.Acting.{IsActAt, LeavesAct}
-use Rattle.ctr_exec.specs.Order.{Adds, AddsOrFails, IsNextInOrder, IsOrdered, StandInOrder, led_from}
+use Rattle.ctr_exec.specs.Order.{Adds, AddsOrFails, IsNextInOrder, IsTapeOrdered, StandInOrder, led_from}
 use Rattle.ctr_exec.specs.Runners.{IsUnbegun, finished_with, after_act, made_at, runner_at}
-use Rattle.ctr_exec.specs.Sessions.{AreAnswers, AreOfTurn, AreSeated, IsReleased, entries_by, noted, runner_by}
+use Rattle.ctr_exec.specs.Sessions.{AreAnswers, AreOfTurn, AreSeated, IsReleased, entries_by, noted_entry, runner_by}
 use Rattle.ctr_exec.proofs.Answering.{answers_append, moments_append}
 use Rattle.ctr_exec.proofs.Places.{fresh_at}
 use Rattle.ctr_exec.proofs.Points.{act_ends, ask_goes, lock_goes, progress_mine, progress_other}
@@ -59,12 +59,12 @@ earlier a b c first rest = omega (arith, first, rest)
 pub at_once : (n : ℕ) → n ≤ n
 at_once n = omega arith
 
-pub ordered_later : (start before moment : ℕ) (h : Sessions) (txns : TxnsHeld) (locks : List (ℕ × LocksOfSession)) → before ≤ moment → IsOrdered start before h → IsOrdered start moment (record h { txns = txns; locks = locks })
+pub ordered_later : (start before moment : ℕ) (h : Sessions) (txns : TxnsHeld) (locks : List (ℕ × LocksOfSession)) → before ≤ moment → IsTapeOrdered start before h → IsTapeOrdered start moment (record h { txns = txns; locks = locks })
 ordered_later start before moment h txns locks le is = record { order = is.order; later = earlier (led_from start h).moment before moment is.later le; each = is.each }
 
 -- ---- one session goes on
 
-module _ (h now : Sessions) (m : ℕ) (seats : AreSeated h m) (s : ℕ) (one : IsOneOfEight s) (script : now.script ≡ h.script) (start before moment : ℕ) (le : before ≤ moment) (is : IsOrdered start before h) where
+module _ (h now : Sessions) (m : ℕ) (seats : AreSeated h m) (s : ℕ) (one : IsOneOfEight s) (script : now.script ≡ h.script) (start before moment : ℕ) (le : before ≤ moment) (is : IsTapeOrdered start before h) where
   abbrev mine : Runner
   mine = runner_at s h.runners.items
 
@@ -91,7 +91,7 @@ module _ (h now : Sessions) (m : ℕ) (seats : AreSeated h m) (s : ℕ) (one : I
         (λ two. other_is t two ∙ is.each t other ∙ ap far (sym (theirs h now m m seats s one x script runners t other two)))
 
   -- nothing is told
-  pub ordered_on : (at : Stage) → made_at at ≡ made_at mine.stage → now.runners.items ≡ slice_set h.runners.items (s - 1) (record mine { stage = at }) → now.tape.items ≡ h.tape.items → IsOrdered start moment now
+  pub ordered_on : (at : Stage) → made_at at ≡ made_at mine.stage → now.runners.items ≡ slice_set h.runners.items (s - 1) (record mine { stage = at }) → now.tape.items ≡ h.tape.items → IsTapeOrdered start moment now
   ordered_on at made runners tape = record {
     order = order_now h.tape.items tape is.order;
     later = let same = ap (λ (z : Point). z.moment) (led_now h.tape.items tape) in let later = is.later in omega (arith, same, later, le);
@@ -101,9 +101,9 @@ module _ (h now : Sessions) (m : ℕ) (seats : AreSeated h m) (s : ℕ) (one : I
   -- an act is told
   module _ (statement : Statement) (here : statement_of h.script.lines s ((runner_at s h.runners.items).finished + 1) ≡ Some statement) (x : Act) (r : Reply) (y : Stage) (act_is : IsActAt s statement (made_at mine.stage) x)
       (goes : (state : State) → advanced (acts_of state s statement) r (far mine) ≡ record { finished = finished_with y mine.finished; made = made_at y })
-      (runners : now.runners.items ≡ slice_set h.runners.items (s - 1) (after_act y mine)) (tape : now.tape.items ≡ h.tape.items ++ noted s mine x r moment ∷ []) where
+      (runners : now.runners.items ≡ slice_set h.runners.items (s - 1) (after_act y mine)) (tape : now.tape.items ≡ h.tape.items ++ noted_entry s mine x r moment ∷ []) where
     abbrev e : Entry
-    e = noted s mine x r moment
+    e = noted_entry s mine x r moment
 
     next : IsNextInOrder lines p e
     next = record {
@@ -116,7 +116,7 @@ module _ (h now : Sessions) (m : ℕ) (seats : AreSeated h m) (s : ℕ) (one : I
     led_told : led_from start now ≡ passed lines p e
     led_told = led_now (h.tape.items ++ e ∷ []) tape ∙ final_push lines (at_start start [] []) h.tape.items e
 
-    pub ordered_told : IsOrdered start moment now
+    pub ordered_told : IsTapeOrdered start moment now
     ordered_told = record {
       order = order_now (h.tape.items ++ e ∷ []) tape (in_order_push lines (at_start start [] []) h.tape.items e is.order (earlier p.moment before moment is.later le, inl next, tt));
       later = let same : (led_from start now).moment ≡ moment = ap (λ (z : Point). z.moment) led_told in omega (arith, same);
@@ -151,9 +151,9 @@ module _ (h now : Sessions) (m : ℕ) (seats : AreSeated h m) (s : ℕ) (one : I
   me = runner_at s h.runners.items
 
   adds_told : (x : Act) (r : Reply) (y : Stage) → IsActAt s statement (made_at me.stage) x → ((state : State) → advanced (acts_of state s statement) r (far me) ≡ record { finished = finished_with y me.finished; made = made_at y })
-      → now.runners.items ≡ slice_set h.runners.items (s - 1) (after_act y me) → now.tape.items ≡ h.tape.items ++ noted s me x r moment ∷ [] → Adds (AreOfTurn s) before moment h now
+      → now.runners.items ≡ slice_set h.runners.items (s - 1) (after_act y me) → now.tape.items ≡ h.tape.items ++ noted_entry s me x r moment ∷ [] → Adds (AreOfTurn s) before moment h now
   adds_told x r y act_is goes runners tape = record {
-    entries = noted s me x r moment ∷ [];
+    entries = noted_entry s me x r moment ∷ [];
     tape = tape;
     are_such = inl (at_once 1, (refl, tt));
     moments = (refl, tt);
@@ -216,9 +216,9 @@ module _ (h now : Sessions) (m : ℕ) (seats : AreSeated h m) (s : ℕ) (asked :
   its_answer = subst (λ k. IsActAt s st.Commit k act.Answer) (sym (one_made h m seats s asked after next)) (λ state. refl)
 
   pub answer_added : (before moment : ℕ) → before ≤ moment → now.script ≡ h.script → now.stuck ≡ h.stuck → now.runners.items ≡ slice_set h.runners.items (s - 1) (after_act stage.Between waiting)
-      → now.tape.items ≡ h.tape.items ++ noted s waiting act.Answer (reply.Answered asked.k) moment ∷ [] → Adds AreAnswers before moment h now
+      → now.tape.items ≡ h.tape.items ++ noted_entry s waiting act.Answer (reply.Answered asked.k) moment ∷ [] → Adds AreAnswers before moment h now
   answer_added before moment le script stuck runners tape = record {
-    entries = noted s waiting act.Answer (reply.Answered asked.k) moment ∷ [];
+    entries = noted_entry s waiting act.Answer (reply.Answered asked.k) moment ∷ [];
     tape = tape;
     are_such = (refl, tt);
     moments = (refl, tt);
@@ -255,7 +255,7 @@ adds_answers s before moment h now adds = record {
 
 -- ---- as a script begins
 
-pub ordered_new : (h : Sessions) → h.tape.items ≡ [] → AllByRecursion IsUnbegun h.runners.items → (start now : ℕ) → start ≤ now → IsOrdered start now h
+pub ordered_new : (h : Sessions) → h.tape.items ≡ [] → AllByRecursion IsUnbegun h.runners.items → (start now : ℕ) → start ≤ now → IsTapeOrdered start now h
 ordered_new h none fresh start now le = record {
   order = subst (StandInOrder h.script.lines (at_start start [] [])) (sym none) tt;
   later = let same : (led_from start h).moment ≡ start = ap (λ (z : Point). z.moment) led in omega (arith, same, le);
@@ -268,7 +268,7 @@ ordered_new h none fresh start now le = record {
 
 -- ---- recovery
 
-module _ (h now : Sessions) (name : List ℕ) (moment : ℕ) (released : IsReleased name moment h now) (start before : ℕ) (le : before ≤ moment) (is : IsOrdered start before h) where
+module _ (h now : Sessions) (name : List ℕ) (moment : ℕ) (released : IsReleased name moment h now) (start before : ℕ) (le : before ≤ moment) (is : IsTapeOrdered start before h) where
   abbrev from : Point
   from = led_from start h
 
@@ -281,7 +281,7 @@ module _ (h now : Sessions) (name : List ℕ) (moment : ℕ) (released : IsRelea
   led_released : led_from start now ≡ passed h.script.lines from entry
   led_released = (λ i. final (script_same i).lines (at_start start [] []) (released.tape i)) ∙ final_push h.script.lines (at_start start [] []) h.tape.items entry
 
-  pub ordered_released : IsOrdered start moment now
+  pub ordered_released : IsTapeOrdered start moment now
   ordered_released = record {
     order = subst (λ (sc : Script). StandInOrder sc.lines (at_start start [] []) now.tape.items) (sym script_same)
         (subst (StandInOrder h.script.lines (at_start start [] [])) (sym released.tape)

@@ -20,7 +20,7 @@ use Rattle.ctr_control.specs.kept_Turns.{Start, point_now, state_now}
 use Rattle.ctr_control.specs.kept_Walk.{Mind}
 use Rattle.ctr_control.specs.txn_Held.{TxnsHeld, IsOneOfEight, number_drawn}
 use Rattle.ctr_control.specs.ctr_rollback.declared.rolling.Rolled.TheVariants.{Undone, Back}
-use Rattle.ctr_control.specs.ctr_session_world.Told.{IsNextOf, IsTold, IsKeptOn}
+use Rattle.ctr_control.specs.ctr_session_world.Told.{IsNextOf, IsActTold, IsKeptOn}
 use Rattle.ctr_exec.specs.declared.acting.Acted.{Acted}
 use Rattle.ctr_exec.specs.declared.acting.Acted.TheVariants as acted
 use Rattle.ctr_exec.specs.declared.runners.Runner.{Runner}
@@ -29,7 +29,7 @@ use Rattle.ctr_exec.specs.declared.runners.Stage.TheVariants as stage
 use Rattle.ctr_exec.specs.declared.sessions.Sessions.{Sessions}
 use Rattle.ctr_exec.specs.Acting.{IsMidway, LeavesAct, RollsAct, TurnOfAct, WantsRoom, WentByAct}
 use Rattle.ctr_exec.specs.Runners.{made_at, finished_with, after_act, runner_at}
-use Rattle.ctr_exec.specs.Sessions.{TakesAct, AreSeated, IsRollingBack, RollsTurn, IsSeatedAt, ShowsSessions, LeadsTo, AreOfTurn, held_by, noted, entries_by, runner_by}
+use Rattle.ctr_exec.specs.Sessions.{TakesAct, AreSeated, IsRollingBack, RollsTurn, IsSeatedAt, ShowsSessions, LeadsTo, AreOfTurn, sessions_held_by, noted_entry, entries_by, runner_by}
 use Rattle.ctr_exec.proofs.Points.{act_ends, lock_goes, ask_goes}
 use Rattle.ctr_exec.proofs.Seats.{its, theirs, goes_with}
 use Rattle.ctr_exec.proofs.Shown.{RowsStay, idle_for, same_point, others_kept}
@@ -47,7 +47,7 @@ module _ {D : Type 0} (g : Ghosts D) (c : Start) (opened : D) (a b : View D) (h 
   there = ap (λ ls. statement_of ls s (mine.finished + 1)) (sym before.lines) ∙ here
 
   -- its statement comes next
-  abbrev pub next : IsNextOf g c opened a b (held_by h) s statement (made_at mine.stage)
+  abbrev pub next : IsNextOf g c opened a b (sessions_held_by h) s statement (made_at mine.stage)
   next = record {
     mind = w;
     world = before.world;
@@ -68,7 +68,7 @@ module _ {D : Type 0} (g : Ghosts D) (c : Start) (opened : D) (a b : View D) (h 
 
     -- ---- nothing is told
 
-    module _ (kept : IsKeptOn next (held_by now)) (at : Stage) (same : made_at at ≡ made_at mine.stage) (is_at : IsMidway c s statement kept.mind at)
+    module _ (kept : IsKeptOn next (sessions_held_by now)) (at : Stage) (same : made_at at ≡ made_at mine.stage) (is_at : IsMidway c s statement kept.mind at)
         (runners : now.runners.items ≡ slice_set h.runners.items (s - 1) (record mine { stage = at })) (tape : now.tape.items ≡ h.tape.items) where
       abbrev v : Mind
       v = kept.mind
@@ -110,7 +110,7 @@ module _ {D : Type 0} (g : Ghosts D) (c : Start) (opened : D) (a b : View D) (h 
 
     -- ---- an act is told
 
-    module _ (x : Act) (r : Reply) (told : IsTold next (held_by now) x r) where
+    module _ (x : Act) (r : Reply) (told : IsActTold next (sessions_held_by now) x r) where
       abbrev u : Mind
       u = told.mind
 
@@ -119,14 +119,14 @@ module _ {D : Type 0} (g : Ghosts D) (c : Start) (opened : D) (a b : View D) (h 
 
       module _ (y : Stage) (led : advanced (acts_of (state_now c w) s statement) r (record { finished = mine.finished; made = made_at mine.stage }) ≡ record { finished = finished_with y mine.finished; made = made_at y })
           (is_at : (other : Statement) → statement_of c.lines s (finished_with y mine.finished + 1) ≡ Some other → IsMidway c s other u y)
-          (runners : now.runners.items ≡ slice_set h.runners.items (s - 1) (after_act y mine)) (tape : now.tape.items ≡ h.tape.items ++ noted s mine x r (g.moment_of b.disk) ∷ [])
-          (rolls : IsRollingBack s h → RollsTurn s h a b (noted s mine x r (g.moment_of b.disk) ∷ [])) (wants : WantsRoom x r a b) where
+          (runners : now.runners.items ≡ slice_set h.runners.items (s - 1) (after_act y mine)) (tape : now.tape.items ≡ h.tape.items ++ noted_entry s mine x r (g.moment_of b.disk) ∷ [])
+          (rolls : IsRollingBack s h → RollsTurn s h a b (noted_entry s mine x r (g.moment_of b.disk) ∷ [])) (wants : WantsRoom x r a b) where
         pub goes_told : TakesAct before s b now
         goes_told = (
           record {
             mind = u;
             shows = shows_told g c opened b h now w before.each s one statement there sound rows views x r u told.world told.tape told.others m n seats script stuck before.lines before.tape before.stuck y led is_at runners tape;
-            entries = noted s mine x r (g.moment_of b.disk) ∷ [];
+            entries = noted_entry s mine x r (g.moment_of b.disk) ∷ [];
             tape = told.tape;
             are_such = inl (one_at_most, (refl, tt));
             moments = (refl, tt);
@@ -146,7 +146,7 @@ module _ {D : Type 0} (g : Ghosts D) (c : Start) (opened : D) (a b : View D) (h 
     none_made : made_at mine.stage ≡ 0 → (acts : List Act) (x : Act) → slice_get acts (made_at mine.stage) ≡ Some x → slice_get acts 0 ≡ Some x
     none_made none acts x is = subst (λ i. slice_get acts i ≡ Some x) none is
 
-    pub turned : (l : Acted) (txns : TxnsHeld) → LeavesAct mine.stage s statement txns n l → WentByAct a b l → (IsRollingBack s h → RollsAct (number_drawn s h.txns) a b l) → TurnOfAct next (held_by now) (Ok l) → now.runners.items ≡ slice_set h.runners.items (s - 1) (runner_by l mine)
+    pub turned : (l : Acted) (txns : TxnsHeld) → LeavesAct mine.stage s statement txns n l → WentByAct a b l → (IsRollingBack s h → RollsAct (number_drawn s h.txns) a b l) → TurnOfAct next (sessions_held_by now) (Ok l) → now.runners.items ≡ slice_set h.runners.items (s - 1) (runner_by l mine)
         → now.tape.items ≡ h.tape.items ++ entries_by s mine (g.moment_of b.disk) l → TakesAct before s b now
     unfolding goes_on
     turned (acted.On at) txns leaves went rolls turn runners tape =

@@ -21,7 +21,7 @@ use Rattle.ctr_control.specs.ctr_rollback.Rolling.{RollsTo}
 use Rattle.ctr_control.specs.ctr_writing.ctr_looks.Granting.{HasItem}
 use Rattle.ctr_control.specs.ctr_writing.ctr_looks.Locking.{IsWriteOf}
 use Rattle.ctr_control.specs.ctr_session_world.World.{SessionsHeld}
-use Rattle.ctr_control.specs.ctr_session_world.Told.{IsIdleIn, IsNextOf, IsTold, IsKeptOn}
+use Rattle.ctr_control.specs.ctr_session_world.Told.{IsIdleIn, IsNextOf, IsActTold, IsKeptOn}
 use Rattle.ctr_control.specs.ctr_session_world.Ready.{LeavesReady, StaysUnasked, is_asking}
 use Rattle.ctr_control.specs.ctr_writing.Rows.{IsAtRow, MayGoOn, WentOn}
 use Rattle.ctr_control.specs.ctr_writing.Tables.{IsAtTableWrite}
@@ -44,7 +44,7 @@ MayAct (stage.Table write) s statement txns counted =
     (changes_schema statement ≡ true) × IsWriteOf statement write × HasItem s txns
 MayAct stage.Asked s statement txns counted = ⊥
 
--- It is the act of a session's statement behind so many of its acts, at whatever state.
+-- An act is the one of a session's statement behind so many of its acts, at whatever state.
 abbrev pub IsActAt : ℕ → Statement → ℕ → Act → Type 0
 IsActAt s statement made x =
     (state : State) → slice_get (acts_of state s statement) made ≡ Some x
@@ -62,8 +62,8 @@ ends_statement act.Rollback r = true
 ends_statement (act.Release name) r = false
 
 -- So may the one that comes next, where the statement isn't finished. A first act alone is granted,
--- which is a Lock; and COMMIT's alone asks for a commit. What ends the statement is the act that came
--- next, with a reply that ends it.
+-- which is a Lock; and COMMIT's alone asks for a commit. What ends the statement is the act that
+-- came next, with a reply that ends it.
 abbrev pub LeavesAct : Stage → ℕ → Statement → TxnsHeld → ℕ → Acted → Type 0
 LeavesAct g s statement txns counted (acted.On at) =
     (made_at at ≡ made_at g) × MayAct at s statement txns counted
@@ -109,9 +109,9 @@ LeavesSessions s txns now a b l =
 
 -- ---- a ROLLBACK
 
--- What a turn of a ROLLBACK does whose transaction wrote, by what it came to: the latest item of the
--- transaction goes, and the act goes on; or none was left, and the transaction is aborted as that is
--- told. One record was logged.
+-- What a turn of a ROLLBACK does whose transaction wrote, by what it came to: the latest item of
+-- the transaction goes, and the act goes on; or none was left, and the transaction is aborted as
+-- that is told. One record was logged.
 abbrev pub RollsAct : {D : Type 0} → ℕ → View D → View D → Acted → Type 0
 RollsAct x a b (acted.On at) = RollsTo x a.now b.now Undone × (b.next ≡ a.next + 1)
 RollsAct x a b (acted.Granted at) = ⊥
@@ -153,8 +153,8 @@ abbrev pub TurnOfAct : {D : Type 0} {g : Ghosts D} {c : Start} {opened : D} {a b
 TurnOfAct {c = c} {s = s} {statement = statement} next now (Ok (acted.On at)) =
     (kept : IsKeptOn next now) × IsMidway c s statement kept.mind at
 TurnOfAct {c = c} {s = s} {statement = statement} next now (Ok (acted.Granted at)) =
-    (told : IsTold next now act.Lock reply.Granted) × IsMidway c s statement told.mind at
-TurnOfAct next now (Ok (acted.Asked k)) = IsTold next now act.Ask (reply.Asked k)
+    (told : IsActTold next now act.Lock reply.Granted) × IsMidway c s statement told.mind at
+TurnOfAct next now (Ok (acted.Asked k)) = IsActTold next now act.Ask (reply.Asked k)
 TurnOfAct {c = c} {a = a} {b = b} {s = s} next now (Ok (acted.Ended x r)) =
-    (told : IsTold next now x r) × IsIdleIn c told.mind s × WantsRoom x r a b
+    (told : IsActTold next now x r) × IsIdleIn c told.mind s × WantsRoom x r a b
 TurnOfAct next now (Err e) = e ≡ Fault

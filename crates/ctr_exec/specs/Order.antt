@@ -24,7 +24,7 @@ pub record IsNextInOrder (lines : List Line) (p : Point) (e : Entry) : Type 0 wh
   pub next_act : slice_get (acts_of p.state e.session statement) (progress_of p e.session).made
       ≡ Some e.act
 
--- Recovery releases a name.
+-- An entry tells that recovery releases a name.
 pub record IsReleaseEntry (e : Entry) : Type 0 where
   pub name : List ℕ
   pub act : e.act ≡ act.Release name
@@ -47,7 +47,7 @@ led_from start h = final h.script.lines (at_start start [] []) h.tape.items
 
 -- The tape stands in order from a moment on, isn't later than now, and has led each session to
 -- where it is.
-pub record IsOrdered (start now : ℕ) (h : Sessions) : Type 0 where
+pub record IsTapeOrdered (start now : ℕ) (h : Sessions) : Type 0 where
   pub order : StandInOrder h.script.lines (at_start start [] []) h.tape.items
   pub later : (led_from start h).moment ≤ now
   pub each : (s : ℕ) → IsOneOfEight s → progress_of (led_from start h) s
@@ -67,7 +67,7 @@ pub record Adds (such : List Entry → Type 0) (before moment : ℕ) (h now : Se
   pub moments : AllByRecursion (λ (e : Entry). e.moment ≡ moment) entries
   pub script : now.script ≡ h.script
   pub stuck : now.stuck ≡ h.stuck
-  pub order : (start : ℕ) → IsOrdered start before h → IsOrdered start moment now
+  pub order : (start : ℕ) → IsTapeOrdered start before h → IsTapeOrdered start moment now
 
 -- A turn that fails adds nothing.
 abbrev pub AddsOrFails : {T : Type 0} → (List Entry → Type 0) → ℕ → ℕ → Sessions → Sessions

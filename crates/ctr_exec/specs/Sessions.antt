@@ -91,9 +91,9 @@ IsOverWhere turn.Idle runner = ⊥
 IsOverWhere turn.Short runner = ⊥
 IsOverWhere turn.Stopped runner = ⊥
 
--- A number that falls at each turn of a session that isn't over: the acts that are left; for each of
--- them the numbers that are left for records; for each of those the pages that may be counted more;
--- and for each of these the turns for room.
+-- A number that falls at each turn of a session that isn't over: the acts that are left; for each
+-- of them the numbers that are left for records; for each of those the pages that may be counted
+-- more; and for each of these the turns for room.
 unfoldable pub turns_left : {D : Type 0} → Sessions → View D → ℕ
 turns_left h v =
     ((all_left h.runners.items * 2 ^ 64 + (2 ^ 63 - v.next)) * 2 ^ 15 + (MOST_PAGES - v.now.counted))
@@ -122,8 +122,8 @@ pub record IsReleased (name : List ℕ) (moment : ℕ) (h now : Sessions) : Type
 -- ---- an act that is told
 
 -- the entry of a session's act of its next statement
-abbrev pub noted : ℕ → Runner → Act → Reply → ℕ → Entry
-noted s runner x r moment = record {
+abbrev pub noted_entry : ℕ → Runner → Act → Reply → ℕ → Entry
+noted_entry s runner x r moment = record {
   session = s;
   statement = runner.finished + 1;
   act = x;
@@ -134,11 +134,11 @@ noted s runner x r moment = record {
 -- what a turn of an act adds to the tape at a moment
 abbrev pub entries_by : ℕ → Runner → ℕ → Acted → List Entry
 entries_by s runner moment (acted.On at) = []
-entries_by s runner moment (acted.Granted at) = noted s runner act.Lock reply.Granted moment ∷ []
-entries_by s runner moment (acted.Asked k) = noted s runner act.Ask (reply.Asked k) moment ∷ []
-entries_by s runner moment (acted.Ended x r) = noted s runner x r moment ∷ []
+entries_by s runner moment (acted.Granted at) = noted_entry s runner act.Lock reply.Granted moment ∷ []
+entries_by s runner moment (acted.Asked k) = noted_entry s runner act.Ask (reply.Asked k) moment ∷ []
+entries_by s runner moment (acted.Ended x r) = noted_entry s runner x r moment ∷ []
 
--- and how far its session is then
+-- How far a session is behind what its turn did.
 abbrev pub runner_by : Acted → Runner → Runner
 runner_by (acted.On at) runner = record runner { stage = at }
 runner_by (acted.Granted at) runner = after_act at runner
@@ -148,8 +148,8 @@ runner_by (acted.Ended x r) runner = after_act stage.Between runner
 -- ---- in a World
 
 -- what the World has of them
-abbrev pub held_by : Sessions → SessionsHeld
-held_by h = record { txns = h.txns; locks = h.locks }
+abbrev pub sessions_held_by : Sessions → SessionsHeld
+sessions_held_by h = record { txns = h.txns; locks = h.locks }
 
 -- A session is where the tape has led it: as many statements are finished, and of the next one as
 -- many acts are told; and it is in the middle of that as its stage says.
@@ -163,7 +163,7 @@ pub record IsSeatedAt (c : Start) (w : Mind) (s : ℕ) (runner : Runner) : Type 
 -- names are those that recovery holds, and each session is where the tape has led it.
 pub record ShowsSessions {D : Type 0} (g : Ghosts D) (c : Start) (opened : D) (v : View D)
     (h : Sessions) (w : Mind) : Type 0 where
-  pub world : InWorld g c opened v (held_by h) w
+  pub world : InWorld g c opened v (sessions_held_by h) w
   pub lines : h.script.lines ≡ c.lines
   pub tape : h.tape.items ≡ w.tape
   pub stuck : h.stuck ≡ (state_now c w).stuck
@@ -179,8 +179,8 @@ AreOfTurn s es = ((length es ≤ 1) × AllByRecursion (λ (e : Entry). e.session
     ⊎ AreAnswers es
 
 -- A turn leaves a World of these sessions, whose tape goes on by such entries, each at the moment
--- at which the turn ends; undo's list, and the names of entries that were taken, are as they were. An
--- entry is refused for want of room where there is none.
+-- at which the turn ends; undo's list, and the names of entries that were taken, are as they were.
+-- An entry is refused for want of room where there is none.
 pub record LeadsTo {D : Type 0} {g : Ghosts D} {c : Start} {opened : D} {a : View D} {h : Sessions}
     {w : Mind} (before : ShowsSessions g c opened a h w) (such : List Entry → Type 0) (b : View D)
     (now : Sessions) : Type 0 where
@@ -205,8 +205,8 @@ abbrev pub entries_of : Rolled → ℕ
 entries_of Undone = 0
 entries_of Back = 1
 
--- A turn of a ROLLBACK takes the latest item of the transaction away; or there was none left, and it
--- makes the entry, with the mark. One record was logged.
+-- A turn of a ROLLBACK takes the latest item of the transaction away; or there was none left, and
+-- it makes the entry, with the mark. One record was logged.
 pub record RollsTurn {D : Type 0} (s : ℕ) (h : Sessions) (a b : View D) (entries : List Entry)
     : Type 0 where
   pub rolled : Rolled
@@ -215,8 +215,9 @@ pub record RollsTurn {D : Type 0} (s : ℕ) (h : Sessions) (a b : View D) (entri
   pub logged : b.next ≡ a.next + 1
 
 -- What a turn of a session did, by how the session was. Where it has an act of its own and there is
--- room, an act is told, or one goes on; of a ROLLBACK so. Where there is no room, it has come nearer
--- by a turn. Where the session waits, all that was logged is durable, and all that asked are answered.
+-- room, an act is told, or one goes on; of a ROLLBACK so. Where there is no room, it has come
+-- nearer by a turn. Where the session waits, all that was logged is durable, and all that asked are
+-- answered.
 pub record DoesTurn {D : Type 0} (h now : Sessions) (s : ℕ) (a b : View D) (entries : List Entry)
     : Type 0 where
   pub acts : HasAct h s → HasTurnRoom a → (length entries ≡ 1) ⊎ WentOn a b
@@ -225,7 +226,7 @@ pub record DoesTurn {D : Type 0} (h now : Sessions) (s : ℕ) (a b : View D) (en
   pub answers : (runner_at s h.runners.items).stage ≡ stage.Asked → (b.waiting ≡ [])
       × (now.txns.answered ≡ length now.txns.numbers.commits)
 
--- It goes on so, and has done that.
+-- A turn leads to a World of these sessions, and has done what a turn does by how its session was.
 abbrev pub TakesTurn : {D : Type 0} {g : Ghosts D} {c : Start} {opened : D} {a : View D}
     {h : Sessions} {w : Mind} → ShowsSessions g c opened a h w → ℕ → View D → Sessions → Type 0
 TakesTurn {a = a} {h = h} before s b now =
@@ -238,7 +239,7 @@ TakesAct {a = a} {h = h} before s b now =
     (goes : LeadsTo before (AreOfTurn s) b now) × ((length goes.entries ≡ 1) ⊎ WentOn a b)
     × (IsRollingBack s h → RollsTurn s h a b goes.entries)
 
--- This holds, or the disk failed.
+-- A statement holds, or the disk failed.
 abbrev pub OrFails : {T : Type 0} → Type 0 → Result T StoreFault → Type 0
 OrFails P (Ok x) = P
 OrFails P (Err e) = e ≡ Fault

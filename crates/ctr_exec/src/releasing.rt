@@ -2,7 +2,7 @@
 ghost use Rattle.std.specs.Prelude.{◌≡◌, ◌≤◌, ℕ, true};
 ghost use Rattle.ctr_model.specs.Reply.{without_name};
 ghost use Rattle.ctr_model.specs.State.{has_name};
-ghost use Rattle.ctr_exec.specs.Order.{IsOrdered};
+ghost use Rattle.ctr_exec.specs.Order.{IsTapeOrdered};
 ghost use Rattle.ctr_exec.specs.Sessions.{AreSeated, IsReleased};
 
 use crate::sessions::Sessions;
@@ -29,7 +29,7 @@ impl Sessions {
         ensures seats { (counted : ℕ) → AreSeated self.old counted → AreSeated self.new counted }
         ensures is { IsReleased name moment self.old self.new }
         // A tape that stood in order does still, where time hasn't gone back.
-        ensures order { (start before : ℕ) → before ≤ moment → IsOrdered start before self.old → IsOrdered start moment self.new }
+        ensures order { (start before : ℕ) → before ≤ moment → IsTapeOrdered start before self.old → IsTapeOrdered start moment self.new }
     {
         let held = mem::replace(&mut self.stuck, List::new(alloc));
         self.stuck = without(held, &name);

@@ -10,9 +10,9 @@ ghost use Rattle.ctr_control.specs.kept_Walk.{Mind};
 ghost use Rattle.ctr_control.specs.ctr_session_world.Ready.{StandOver, LeavesDisk};
 ghost use Rattle.ctr_control.specs.ctr_writing.Tables.{HasFittingColumns};
 ghost use Rattle.ctr_exec.specs.declared.runners.Stage.TheVariants as stages;
-ghost use Rattle.ctr_exec.specs.Order.{Adds, AddsOrFails, IsOrdered};
+ghost use Rattle.ctr_exec.specs.Order.{Adds, AddsOrFails, IsTapeOrdered};
 ghost use Rattle.ctr_exec.specs.Runners.{runner_at, after_act, all_left, IsNextLine, IsRunnerOf};
-ghost use Rattle.ctr_exec.specs.Sessions.{AreSeated, AreFresh, HasAct, IsOverWhere, MayGo, LeavesSeats, ShowsSessions, LeadsTo, OrFails, TakesAct, TakesTurn, AreAnswers, AreOfTurn, noted, entries_by, runner_by, turns_left};
+ghost use Rattle.ctr_exec.specs.Sessions.{AreSeated, AreFresh, HasAct, IsOverWhere, MayGo, LeavesSeats, ShowsSessions, LeadsTo, OrFails, TakesAct, TakesTurn, AreAnswers, AreOfTurn, noted_entry, entries_by, runner_by, turns_left};
 
 use crate::acting::{Acted, act};
 use crate::runners::{Runner, Stage, runners};
@@ -80,7 +80,7 @@ impl Sessions {
         ensures fresh { IfOk result AreFresh }
         ensures is { IfOk result (λ h. (h.txns.numbers.next ≡ next) × (h.stuck ≡ stuck) × (h.script ≡ script)) }
         // Its tape has no entry, so it stands in order from any moment on.
-        ensures ordered { IfOk result (λ h. (start now : ℕ) → start ≤ now → IsOrdered start now h) }
+        ensures ordered { IfOk result (λ h. (start now : ℕ) → start ≤ now → IsTapeOrdered start now h) }
     {
         let txns = Txns::new(alloc, next)?;
         let runners = runners(alloc, script.lines.as_slice())?;
@@ -140,7 +140,7 @@ impl Sessions {
         requires room { vec_len self.old.tape < vec_capacity self.old.tape }
         requires small { (runner_at s self.old.runners.items).finished < 2 ^ 64 - 1 }
         ensures is { self.new ≡ record self.old { tape = self.new.tape; runners = self.new.runners } }
-        ensures tape { self.new.tape.items ≡ self.old.tape.items ++ noted s (runner_at s self.old.runners.items) act reply moment ∷ [] }
+        ensures tape { self.new.tape.items ≡ self.old.tape.items ++ noted_entry s (runner_at s self.old.runners.items) act reply moment ∷ [] }
         ensures len { vec_len self.new.tape ≡ vec_len self.old.tape + 1 }
         ensures capacity { vec_capacity self.new.tape ≡ vec_capacity self.old.tape }
         ensures runners { self.new.runners.items ≡ slice_set self.old.runners.items (s - 1) (after_act stage (runner_at s self.old.runners.items)) }

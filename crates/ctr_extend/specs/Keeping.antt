@@ -35,8 +35,8 @@ HasLogged Linked = Unit {0}
 HasLogged Grown = ⊥
 HasLogged Full = ⊥
 
--- A World in which a session that has a number wants a page, and so far it is. Beside that it counts
--- on the tables in which it has locks.
+-- A World in which a session that has a number wants a page, and so far it is. Beside that it
+-- counts on the tables in which it has locks.
 pub record WantsPage {D : Type 0} (g : Ghosts D) (c : Start) (opened : D) (a : View D) (w : Mind)
     : Type 0 where
   pub s : ℕ

@@ -81,9 +81,9 @@ IsCountedStep Linked counted = Unit {0}
 IsCountedStep Grown counted = Unit {0}
 IsCountedStep Full counted = Unit {0}
 
--- The room of the tables behind a turn that may add so many items: an item is added with a page that
--- is taken, and goes as it is linked. More pages are counted only by a turn that may add one. No
--- number is drawn.
+-- The room of the tables behind a turn that may add so many items: an item is added with a page
+-- that is taken, and goes as it is linked. More pages are counted only by a turn that may add one.
+-- No number is drawn.
 abbrev pub LeavesRoom : ℕ → Extended → TablesKept → TablesKept → Type 0
 LeavesRoom n (On Wanted) k l = ⊥
 LeavesRoom n (On (Taken p)) k l = AddsItems n k l
@@ -92,8 +92,8 @@ LeavesRoom n Linked k l = AddsItems 0 k l × (length l.tables.items + 1 ≡ leng
 LeavesRoom n Grown k l = (n ≡ 1) × (l ≡ k)
 LeavesRoom n Full k l = l ≡ k
 
--- How a turn moves a store on: the log's next number is one more behind a turn that logged its record,
--- and else what it was; and behind one that grew more pages are counted.
+-- How a turn moves a store on: the log's next number is one more behind a turn that logged its
+-- record, and else what it was; and behind one that grew more pages are counted.
 abbrev pub MovesBy : {D : Type 0} → Extended → View D → View D → Type 0
 MovesBy (On way) a b = b.next ≡ a.next + 1
 MovesBy Linked a b = b.next ≡ a.next + 1

@@ -13,8 +13,8 @@ is_marked opened = opened.is_unsynced
 abbrev pub file_within : {F : Type 0} → Marked F → F
 file_within opened = opened.file
 
--- The next sync has to reach a file that is marked, and one that isn't open yet: what an earlier program
--- wrote may not have reached the disk.
+-- The next sync has to reach a file that is marked, and one that isn't open yet: what an earlier
+-- program wrote may not have reached the disk.
 abbrev pub is_unsynced : {F : Type 0} → Option (Marked F) → Bool
 is_unsynced None = true
 is_unsynced (Some opened) = is_marked opened

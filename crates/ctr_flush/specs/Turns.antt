@@ -13,11 +13,11 @@ use Rattle.ctr_flush.specs.declared.flusher.Due.TheVariants as due
 use Rattle.ctr_flush.specs.declared.flusher.FlushTurn.{FlushTurn}
 use Rattle.ctr_flush.specs.declared.flusher.FlushTurn.TheVariants.{Wrote, Idle, Short}
 
--- No page or table of the fold changes: behind an Ok all is as it was, of which more may be hardened,
--- and a crash leaves that with a prefix of what waits; at each moment one leaves what was hardened with
--- a prefix of what waited. However it ends, the tables, the count of pages and room aren't less, the
--- clock didn't go back, and no call of the disk went past the last place of a file, but where the log
--- ends at 2^62 + 2^61 or further on.
+-- No page or table of the fold changes: behind an Ok all is as it was, of which more may be
+-- hardened, and a crash leaves that with a prefix of what waits; at each moment one leaves what was
+-- hardened with a prefix of what waited. However it ends, the tables, the count of pages and room
+-- aren't less, the clock didn't go back, and no call of the disk went past the last place of a
+-- file, but where the log ends at 2^62 + 2^61 or further on.
 pub record KeepsPages {D T : Type 0} (first : Image) (g : Ghosts D) (a b : View D) (result : Result T StoreFault)
     : Type 0 where
   pub any_moment : IsTrue g.tells → IsSoundImage first → LeavesFront g a b
@@ -42,8 +42,8 @@ pub record SameLog {D : Type 0} (a b : View D) : Type 0 where
 -- ---- the cases, of which a turn does the first that applies
 
 -- a new generation is due, and the log is durable: it begins
-abbrev pub Begins : {D : Type 0} → View D → View D → Type 0
-Begins a b = IsDue a × (a.waiting ≡ []) × BeginsGeneration a b
+abbrev pub BeginsDue : {D : Type 0} → View D → View D → Type 0
+BeginsDue a b = IsDue a × (a.waiting ≡ []) × BeginsGeneration a b
 
 -- the older one can go: it is dropped
 abbrev pub Drops : {D : Type 0} → View D → View D → Type 0
@@ -65,15 +65,16 @@ pub record Writes {D : Type 0} (a b : View D) : Type 0 where
   pub oldest : WritesOldest a b
   pub log : SameLog a b
 
--- Nothing is to be done: no page is changed that isn't home, the log is durable, no older generation is
--- kept, and none is due.
+-- Nothing is to be done: no page is changed that isn't home, the log is durable, no older
+-- generation is kept, and none is due.
 pub record IsIdle {D : Type 0} (a : View D) : Type 0 where
   pub clean : a.dirty ≡ false
   pub durable : a.waiting ≡ []
   pub one : a.older ≡ false
   pub undue : IsDue a → ⊥
 
--- the same, but that one is due
+-- No page is changed that isn't home, the log is durable, no older generation is kept, and a new
+-- one is due.
 pub record IsShort {D : Type 0} (a : View D) : Type 0 where
   pub clean : a.dirty ≡ false
   pub durable : a.waiting ≡ []
@@ -84,9 +85,10 @@ pub record IsShort {D : Type 0} (a : View D) : Type 0 where
 abbrev pub Stays : {D : Type 0} → View D → View D → Type 0
 Stays a b = KeepsFrames a b × SameLog a b
 
--- what a turn did, by its answer; Short comes where memory was refused for the generation that is due
+-- what a turn did, by its answer; Short comes where memory was refused for the generation that is
+-- due
 abbrev pub AnswersTurn : {D : Type 0} → View D → View D → Result FlushTurn StoreFault → Type 0
-AnswersTurn a b (Ok Wrote) = Begins a b ⊎ (Drops a b ⊎ (Hardens a b ⊎ Writes a b))
+AnswersTurn a b (Ok Wrote) = BeginsDue a b ⊎ (Drops a b ⊎ (Hardens a b ⊎ Writes a b))
 AnswersTurn a b (Ok Idle) = IsIdle a × Stays a b
 AnswersTurn a b (Ok Short) = IsShort a × Stays a b
 AnswersTurn a b (Err e) = Unit {0}
@@ -96,7 +98,7 @@ AnswersTurn a b (Err e) = Unit {0}
 -- a generation was begun where one was due; or memory was refused, or none was due, and nothing has
 -- changed
 abbrev pub AnswersDue : {D : Type 0} → View D → View D → Result Due StoreFault → Type 0
-AnswersDue a b (Ok due.Begun) = Begins a b
+AnswersDue a b (Ok due.Begun) = BeginsDue a b
 AnswersDue a b (Ok due.Refused) = IsDue a × (a.waiting ≡ []) × (b ≡ a)
 AnswersDue a b (Ok due.NotYet) = ((IsDue a × (a.waiting ≡ [])) → ⊥) × (b ≡ a)
 AnswersDue a b (Err e) = Unit {0}
@@ -107,7 +109,8 @@ AnswersRest a b (Ok true) = Drops a b ⊎ (Hardens a b ⊎ Writes a b)
 AnswersRest a b (Ok false) = (a.dirty ≡ false) × (a.waiting ≡ []) × (a.older ≡ false) × Stays a b
 AnswersRest a b (Err e) = Unit {0}
 
--- the same, where this is answered where none applies
+-- One of the other cases was done, and Wrote is answered; or none applies, and the given turn is
+-- answered.
 abbrev pub AnswersOr : {D : Type 0} → FlushTurn → View D → View D → Result FlushTurn StoreFault → Type 0
 AnswersOr none a b (Ok t) = ((t ≡ Wrote) × AnswersRest a b (Ok true)) ⊎ ((t ≡ none) × AnswersRest a b (Ok false))
 AnswersOr none a b (Err e) = Unit {0}

@@ -65,6 +65,6 @@ front_action p e (Some bucket) = Links p e bucket
 front_action p e None = LinksOlder p e
 
 -- the entry isn't free, and its parts have room, as they have where it passes its checks
-abbrev pub IsOfTable : (ℕ → List ℕ) → ℕ → Type 0
-IsOfTable pages e =
+abbrev pub HasTableParts : (ℕ → List ℕ) → ℕ → Type 0
+HasTableParts pages e =
     (((area_of pages).title e).state ≢ 0) × PartsHaveRoom (entry_bytes pages e)

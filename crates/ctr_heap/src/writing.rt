@@ -12,7 +12,7 @@ ghost use Rattle.ctr_walk.specs.record_effects_Changing.{format_record};
 ghost use Rattle.ctr_passed.specs.record_laws_Owed.{RowMove};
 ghost use Rattle.ctr_passed.specs.actions_Sites.{site_of};
 ghost use Rattle.ctr_passed.specs.actions_Actions.{Formats, Writes, site_after};
-ghost use Rattle.ctr_heap.specs.Writing.{LiesOnPage, row_record, HasPlaceFor, LaysMove, front_place, front_record, front_action, IsOfTable};
+ghost use Rattle.ctr_heap.specs.Writing.{LiesOnPage, row_record, HasPlaceFor, LaysMove, front_place, front_record, front_action, HasTableParts};
 
 use ctr_bytes::put_u32;
 use ctr_disk::{Disk, StoreFault};
@@ -147,7 +147,7 @@ pub fn link<D: Disk, O: Origin>(
     ensures one { LogsOne O.first D.Disk (front_record x p entry bucket) store.old store.new result }
     ensures whole { WhereSound O.first D.Disk (OnOk result (IsWholePage (1 + entry / 16) store.old.now)) }
     // The chain begins with the page, which is the transaction's own no more, and nothing else in the pages and the tables changes.
-    ensures leaves { WhereSound O.first D.Disk (IsOfTable (pages_in store.old.now) entry
+    ensures leaves { WhereSound O.first D.Disk (HasTableParts (pages_in store.old.now) entry
         → OnOk result (site_of store.new.now ≡ site_after x (front_action p entry bucket) (site_of store.old.now))) }
 {
     a_logged_record_is_its_action();

@@ -53,8 +53,8 @@ pub record KeepsHome (b : Block) (home : Home) (old new : Image) : Type 0 where
   pub here : (held_at b home (content (file_of b) new) ≡ None)
       ⊎ (held_at b home (content (file_of b) new) ≡ held_at b home (content (file_of b) old))
 
--- all else stays; the other home holds what it held, and this one holds the value, with zeros behind
--- its body
+-- all else stays; the other home holds what it held, and this one holds the value, with zeros
+-- behind its body
 pub record MakesHome (b : Block) (home : Home) (value : BlockValue) (old new : Image) : Type 0 where
   pub others : OthersStay b old new
   pub beside :
@@ -71,8 +71,8 @@ abbrev pub IsOldOrNewValue : Block → BlockValue → Image → Image → Type 0
 IsOldOrNewValue b value old new = OthersStay b old new
     × ((value_of b new ≡ value_of b old) ⊎ (value_of b new ≡ Some value))
 
--- the block has this value, which stands in one of its homes with zeros behind it, and all else is as
--- it was
+-- the block has this value, which stands in one of its homes with zeros behind it, and all else is
+-- as it was
 abbrev pub IsNewValue : Block → BlockValue → Image → Image → Type 0
 IsNewValue b value old new = OthersStay b old new × (value_of b new ≡ Some value)
     × ((home : Home) × (home_bytes b home (content (file_of b) new) ≡ 1 ∷ behind_gate b value))

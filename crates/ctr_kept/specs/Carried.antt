@@ -14,8 +14,8 @@ use Rattle.ctr_paged.specs.actions_Actions.{Action, Begins, Allocates, Formats, 
 use Rattle.ctr_paged.specs.actions_Facts.{Fact, HasBlank, HasSlot, HasCopy, HasTable, HoldsFact, IsAway}
 use Rattle.ctr_paged.specs.Shown.{Scene}
 
--- The lock or use by which a transaction may count on a fact. A table that is counted on is live, and
--- nobody has dropped it.
+-- The lock or use by which a transaction may count on a fact. A table that is counted on is live,
+-- and nobody has dropped it.
 abbrev pub IsUnderLock : Transaction → Fact → Site → Type 0
 IsUnderLock t (HasSlot e at slot) site = has_lock (site.area.title e).name slot.key t ≡ true
 IsUnderLock t (HasCopy e at v q) site =

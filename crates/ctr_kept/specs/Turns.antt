@@ -154,7 +154,8 @@ release_entry name later = record {
   moment = later;
 }
 
--- A session is as it was, in its transaction or in none; or it has asked for its commit, and is gone.
+-- A session is as it was, in its transaction or in none; or it has asked for its commit, and is
+-- gone.
 abbrev pub StaysOrGoes : Start → Mind → Mind → ℕ → Type 0
 StaysOrGoes c w v s = ((transaction_of (state_now c v) s ≡ transaction_of (state_now c w) s)
     × (find nat_cmp s v.run.sessions ≡ find nat_cmp s w.run.sessions))
@@ -162,7 +163,8 @@ StaysOrGoes c w v s = ((transaction_of (state_now c v) s ≡ transaction_of (sta
     × (t.asked ≡ Some k) × (transaction_of (state_now c v) s ≡ None))
 
 -- All that wait were answered, at one moment: as many answers as were asked and not answered. What
--- sessions count on, undo's list and who asked are as before, and so is each session that didn't ask.
+-- sessions count on, undo's list and who asked are as before, and so is each session that didn't
+-- ask.
 pub record AnswersEach (c : Start) (later : ℕ) (site : Site) (w : Mind) (n : ℕ) : Type 0 where
   pub mind : Mind
   pub entries : List Entry

@@ -5,7 +5,7 @@ use Rattle.std.specs.List.{AllByRecursion}
 use Rattle.ctr_lex.specs.declared.token.Token.{Token}
 use Rattle.ctr_model.specs.Grammar.{IsBlank, IsToken, IsLongest, Lexes}
 use Rattle.ctr_model.specs.Places.{NoneBegins, LexesTo, IsBadAt, IsTokenAt}
-use Rattle.ctr_lex.specs.Tokens.{texts_of, StandInOrder}
+use Rattle.ctr_lex.specs.Tokens.{texts_of, TokensStandInOrder}
 use Rattle.ctr_lex.proofs.Lexing.{Begins, token_begins, one_front, first_token, token_or_blanks}
 use Rattle.ctr_lex.proofs.Fronts.{IsFront, bad_begins}
 
@@ -72,7 +72,7 @@ ordered line (s ∷ ts) (v ∷ us) t a u b w is_t longest_t l is_u longest_u =
 one_drop : (i j : ℕ) (line : List ℕ) → i < length line → j < length line → drop i line ≡ drop j line → i ≡ j
 one_drop i j line inside_i inside_j e = omega (arith, ap length e, length-drop i line, length-drop j line)
 
-pub tokens_ordered : (line : List ℕ) (ts us : List (List ℕ)) (t u : List ℕ) (i j : ℕ) → IsTokenAt line ts t i → IsTokenAt line us u j → StandInOrder ts t i us u j
+pub tokens_ordered : (line : List ℕ) (ts us : List (List ℕ)) (t u : List ℕ) (i j : ℕ) → IsTokenAt line ts t i → IsTokenAt line us u j → TokensStandInOrder ts t i us u j
 tokens_ordered line ts us t u i j a b =
     elim (ordered line ts us t a.after u b.after (behind line ts t i a) a.token a.longest (behind line us u j b) b.token b.longest) [
       | inl e ↦ inl (one_drop i j line a.inside b.inside (a.split ∙ e ∙ sym b.split))

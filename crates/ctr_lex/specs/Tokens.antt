@@ -24,8 +24,8 @@ AreAt line tokens =
     → IsTokenAt line (texts_of front) t.text.now t.at
 
 -- two places behind these tokens are one, or one of the two tokens there stands before the other
-abbrev pub StandInOrder : List (List ℕ) → List ℕ → ℕ → List (List ℕ) → List ℕ → ℕ → Type 0
-StandInOrder ts t i us u j =
+abbrev pub TokensStandInOrder : List (List ℕ) → List ℕ → ℕ → List (List ℕ) → List ℕ → ℕ → Type 0
+TokensStandInOrder ts t i us u j =
     (i ≡ j) ⊎ (((more : List (List ℕ)) × (us ≡ ts ++ t ∷ more))
     ⊎ ((more : List (List ℕ)) × (ts ≡ us ++ u ∷ more)))
 

@@ -2,7 +2,7 @@
 ghost use Rattle.std.specs.Prelude.{◌≡◌, ◌∷◌, ◌++◌, ℕ, List};
 ghost use Rattle.ctr_model.specs.Grammar.{Lexes};
 ghost use Rattle.ctr_model.specs.Places.{IsBadAt, IsTokenAt};
-ghost use Rattle.ctr_lex.specs.Tokens.{StandInOrder, IsTakenApart};
+ghost use Rattle.ctr_lex.specs.Tokens.{TokensStandInOrder, IsTakenApart};
 
 /// Two lists of tokens that lex one line are equal.
 pub fn one_lexing()
@@ -22,7 +22,7 @@ pub fn tokens_stand()
     ensures before_bad { (line : List ℕ) (ts us : List (List ℕ)) (t : List ℕ) (i j : ℕ) → IsTokenAt line ts t i → IsBadAt line us j
         → (more : List (List ℕ)) × (us ≡ ts ++ t ∷ more) }
     ensures ordered { (line : List ℕ) (ts us : List (List ℕ)) (t u : List ℕ) (i j : ℕ) → IsTokenAt line ts t i → IsTokenAt line us u j
-        → StandInOrder ts t i us u j }
+        → TokensStandInOrder ts t i us u j }
 {}
 
 /// Each line is taken apart.

@@ -5,7 +5,7 @@ use Rattle.std.proofs.Math.ListN.{length-set, length-replicate}
 use Rattle.std.specs.List.{AllByRecursion}
 use Rattle.ctr_types.specs.declared.statement.Line.{Line}
 use Rattle.ctr_types.specs.declared.statement.Statement.TheVariants as st
-use Rattle.ctr_load.specs.Draws.{drawn, stepped, place_at, state_behind}
+use Rattle.ctr_load.specs.Draws.{number_of_draw, stepped, place_at, state_behind}
 use Rattle.ctr_load.specs.Statements.{create_load}
 use Rattle.ctr_load.specs.Generated.{line_at, statement_at, round_lines, marks_behind, commits_from, rounds_from, generated}
 use Rattle.ctr_load.specs.Whole.{SessionsAreThese}
@@ -37,7 +37,7 @@ module _ (P : Line → Type 0) (sessions top : ℕ) (holds : HoldsAt P sessions 
   rounds_all zero i state marks is few = commits_all 0 marks (omega arith)
   rounds_all (suc n) i state marks is few =
       let q : ℕ = place_at (length marks) state in
-      let low : q < length marks = mod-lt (drawn (stepped state)) (omega arith) in
+      let low : q < length marks = mod-lt (number_of_draw (stepped state)) (omega arith) in
       all-append P (round_lines i state marks) (rounds_from n (i + 1) (state_behind state) (marks_behind state marks))
       (round_all (get_or marks q false) q i state (omega arith) (omega arith))
       (rounds_all n (i + 1) (state_behind state) (marks_behind state marks) (length-set marks q _ ∙ is) (omega arith))

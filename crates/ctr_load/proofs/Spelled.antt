@@ -10,9 +10,9 @@ use Rattle.ctr_types.specs.declared.statement.Statement.{Statement}
 use Rattle.ctr_types.specs.declared.statement.Statement.TheVariants as st
 use Rattle.ctr_model.specs.Grammar.{Part, sign, IsDigit, IsLetter, IsPrintable, IsNameSpelled, IsSchema, IsInteger, IsWide, IsWithin, statement_parts}
 use Rattle.ctr_model.specs.Language.{MatchParts}
-use Rattle.ctr_load.specs.Draws.{drawn, stepped, third_state, key_at, case_at}
+use Rattle.ctr_load.specs.Draws.{number_of_draw, stepped, third_state, key_at, case_at}
 use Rattle.ctr_load.specs.Statements.{load_columns, create_load, insert_of, update_of, delete_of, select_of}
-use Rattle.ctr_load.specs.Generated.{line_at, statement_of}
+use Rattle.ctr_load.specs.Generated.{line_at, statement_of_case}
 use Rattle.ctr_load.specs.Whole.{IsSpelled, LinesAreSpelled}
 use Rattle.ctr_load.proofs.Each.{all_hold}
 
@@ -157,7 +157,7 @@ module _ (q : ℕ) (low : q < 8) where
           low (omega arith, omega arith)
           (refl, ((refl, load_is), (refl, ((refl, v_is), (refl, ((refl, v_is), (refl, (integer i number, (refl, ((refl, k_is), (refl, (integer k key, tt))))))))))))
 
-      said_spelled : (case state : ℕ) → case < 8 → IsSpelled (line_at q (statement_of case (pos k) (pos i) state))
+      said_spelled : (case state : ℕ) → case < 8 → IsSpelled (line_at q (statement_of_case case (pos k) (pos i) state))
       said_spelled zero state h = insert_spelled
       said_spelled (suc zero) state h = insert_spelled
       said_spelled (suc (suc zero)) state h = insert_spelled
@@ -165,7 +165,7 @@ module _ (q : ℕ) (low : q < 8) where
       said_spelled (suc (suc (suc (suc zero)))) state h = update_spelled
       said_spelled (suc (suc (suc (suc (suc zero))))) state h = delete_spelled
       said_spelled (suc (suc (suc (suc (suc (suc zero)))))) state h = select_spelled
-      said_spelled (suc (suc (suc (suc (suc (suc (suc zero))))))) state h = either_spelled (drawn (stepped state) % 4 == 0)
+      said_spelled (suc (suc (suc (suc (suc (suc (suc zero))))))) state h = either_spelled (number_of_draw (stepped state) % 4 == 0)
       said_spelled (suc (suc (suc (suc (suc (suc (suc (suc n)))))))) state h = absurd (omega arith)
 
 pub lines_are_spelled : LinesAreSpelled
@@ -176,8 +176,8 @@ lines_are_spelled sessions count seed some most few =
       commits = λ q low. commit_spelled q (omega arith);
       creates = create_spelled 0 (omega arith);
       says = λ q i state low below.
-          let key : key_at state < 97 = mod-lt (drawn (stepped (stepped state))) (omega arith) in
-          let case : case_at state < 8 = mod-lt (drawn (third_state state)) (omega arith) in
+          let key : key_at state < 97 = mod-lt (number_of_draw (stepped (stepped state))) (omega arith) in
+          let case : case_at state < 8 = mod-lt (number_of_draw (third_state state)) (omega arith) in
           said_spelled q (omega arith) (key_at state) (omega arith) i (omega arith) (case_at state) (third_state state) case;
     })
     some seed

@@ -6,18 +6,18 @@ abbrev pub stepped : ℕ → ℕ
 stepped state = (state * 6364136223846793005 + 1442695040888963407) % 2 ^ 64
 
 -- the number that a draw gives, by the state that it leaves: its upper 31 bits
-abbrev pub drawn : ℕ → ℕ
-drawn state = state / 2 ^ 33
+abbrev pub number_of_draw : ℕ → ℕ
+number_of_draw state = state / 2 ^ 33
 
 -- ---- one round, by the state before it: what it draws in turn
 
 -- the place of its session among so many, from 0
 abbrev pub place_at : ℕ → ℕ → ℕ
-place_at sessions state = drawn (stepped state) % sessions
+place_at sessions state = number_of_draw (stepped state) % sessions
 
--- the key
+-- The key of a row, by the state of the draws.
 abbrev pub key_at : ℕ → ℕ
-key_at state = drawn (stepped (stepped state)) % 97
+key_at state = number_of_draw (stepped (stepped state)) % 97
 
 -- the state behind these three draws
 abbrev pub third_state : ℕ → ℕ
@@ -25,7 +25,7 @@ third_state state = stepped (stepped (stepped state))
 
 -- which of eight cases it is
 abbrev pub case_at : ℕ → ℕ
-case_at state = drawn (third_state state) % 8
+case_at state = number_of_draw (third_state state) % 8
 
 -- the last of the eight ends the session's transaction, and makes a fourth draw
 abbrev pub is_end_at : ℕ → Bool

@@ -4,7 +4,7 @@ use Rattle.std.specs.Prelude.{ℕ, zero, suc, ◌+◌, ◌%◌, ◌==◌, nat_lt
 use Rattle.ctr_types.specs.declared.statement.Line.{Line}
 use Rattle.ctr_types.specs.declared.statement.Statement.{Statement}
 use Rattle.ctr_types.specs.declared.statement.Statement.TheVariants as st
-use Rattle.ctr_load.specs.Draws.{stepped, drawn, third_state, place_at, key_at, case_at, is_end_at, state_behind}
+use Rattle.ctr_load.specs.Draws.{stepped, number_of_draw, third_state, place_at, key_at, case_at, is_end_at, state_behind}
 use Rattle.ctr_load.specs.Statements.{create_load, insert_of, update_of, delete_of, select_of}
 
 -- a statement of the session at a place, from 0
@@ -13,18 +13,18 @@ line_at place statement = record { session = place + 1; statement = statement }
 
 -- the statement of a case, for a key and a number; the last case makes a fourth draw, from this
 -- state
-abbrev pub statement_of : ℕ → ℤ → ℤ → ℕ → Statement
-statement_of case key number state =
+abbrev pub statement_of_case : ℕ → ℤ → ℤ → ℕ → Statement
+statement_of_case case key number state =
     if nat_lt case 3 then insert_of key number else
     if nat_lt case 5 then update_of key number else
     if case == 5 then delete_of key else
     if case == 6 then select_of key else
-    if drawn (stepped state) % 4 == 0 then st.Rollback else st.Commit
+    if number_of_draw (stepped state) % 4 == 0 then st.Rollback else st.Commit
 
 -- the statement of round i, which begins at this state
 abbrev pub statement_at : ℕ → ℕ → Statement
 statement_at i state =
-    statement_of (case_at state) (pos (key_at state)) (pos i) (third_state state)
+    statement_of_case (case_at state) (pos (key_at state)) (pos i) (third_state state)
 
 -- BEGIN, where the session at the place isn't marked as in a transaction; the list has each
 -- session's mark
@@ -54,7 +54,7 @@ rounds_from (suc n) i state marks =
     round_lines i state marks
     ++ rounds_from n (i + 1) (state_behind state) (marks_behind state marks)
 
--- the first three lines
+-- The first three lines of a script, which make the table.
 abbrev pub table_lines : List Line
 table_lines = line_at 0 st.Begin ∷ line_at 0 create_load ∷ line_at 0 st.Commit ∷ []
 

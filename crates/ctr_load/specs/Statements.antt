@@ -19,7 +19,7 @@ load_columns =
 abbrev pub create_load : Statement
 create_load = st.Create (codes "load") (record { columns = load_columns })
 
--- WHERE k = key
+-- The condition that names a row by its key.
 abbrev pub key_is : ℤ → KeyIs
 key_is key = record { column = codes "k"; key = key }
 

@@ -1,15 +1,16 @@
 -- What holds of every generated script.
-use Rattle.std.specs.Prelude.{◌≡◌, ℕ, ◌+◌, ◌*◌, ◌^◌, ◌≤◌, ◌<◌, ◌==◌, Bool, true, false, not, List, [], ◌∷◌, length, map}
-use Rattle.std.specs.List.{AllByRecursion, filter}
+use Rattle.std.specs.Prelude.{◌≡◌, ℕ, ◌+◌, ◌*◌, ◌^◌, ◌≤◌, ◌<◌, Bool, true, false, not, List, [], ◌∷◌, length}
+use Rattle.std.specs.List.{AllByRecursion}
 use Rattle.ctr_types.specs.declared.statement.Line.{Line}
 use Rattle.ctr_types.specs.declared.statement.Statement.{Statement}
 use Rattle.ctr_types.specs.declared.statement.Statement.TheVariants as st
 use Rattle.ctr_model.specs.Language.{SpellsLine}
+use Rattle.ctr_model.specs.Tape.{statements_of}
 use Rattle.ctr_load.specs.Generated.{generated}
 
 -- ---- transactions
 
--- the statement is BEGIN
+-- Whether a statement is BEGIN.
 abbrev pub is_begin : Statement → Bool
 is_begin st.Begin = true
 is_begin _ = false
@@ -22,20 +23,15 @@ is_end _ = false
 
 -- What a session says, from outside of a transaction or from inside one, is whole: BEGIN comes
 -- outside and nowhere else, COMMIT and ROLLBACK lead outside again, and so it ends outside.
-abbrev pub IsWhole : Bool → List Statement → Type 0
-IsWhole inside [] = inside ≡ false
-IsWhole inside (s ∷ ss) = (is_begin s ≡ not inside) × IsWhole (not (is_end s)) ss
-
--- the statements of one session, in their order
-abbrev pub statements_of : ℕ → List Line → List Statement
-statements_of session lines =
-    map (λ l. l.statement) (filter (λ l. session == l.session) lines)
+abbrev pub IsWholeSession : Bool → List Statement → Type 0
+IsWholeSession inside [] = inside ≡ false
+IsWholeSession inside (s ∷ ss) = (is_begin s ≡ not inside) × IsWholeSession (not (is_end s)) ss
 
 -- Each session's statements are whole transactions, one behind another.
 abbrev pub TransactionsAreWhole : Type 0
 TransactionsAreWhole =
     (sessions count seed session : ℕ) → 1 ≤ sessions → 1 ≤ session
-    → IsWhole false (statements_of session (generated sessions count seed))
+    → IsWholeSession false (statements_of session (generated sessions count seed))
 
 -- ---- lines
 

@@ -2,7 +2,7 @@
 ghost use Rattle.std.specs.Prelude.{◌≡◌, ◌<◌, ◌≤◌, ◌+◌, ◌%◌, ◌^◌, ◌++◌, ◌∷◌, ◌==◌, [], ℕ, List, Bool, false, true, pos, replicate, length, vec_len, IfOk, OnOk, if◌then◌else◌};
 ghost use Rattle.ctr_types.specs.declared.statement.Line.{Line};
 ghost use Rattle.ctr_load.specs.Draws.{place_at, is_end_at, state_behind, stepped};
-ghost use Rattle.ctr_load.specs.Generated.{line_at, table_lines, beginning, statement_of, statement_at, round_lines, marks_behind, commits_from, generated};
+ghost use Rattle.ctr_load.specs.Generated.{line_at, table_lines, beginning, statement_of_case, statement_at, round_lines, marks_behind, commits_from, generated};
 
 use crate::draws::Draws;
 use crate::statements::{create, delete, insert, select, update};
@@ -26,7 +26,7 @@ fn draw_statement(
     number: i64,
 ) -> Result<Statement, OutOfMemory>
     requires { case < 8 }
-    ensures statement { IfOk result (λ s. s ≡ statement_of case key number draws.old.state) }
+    ensures statement { IfOk result (λ s. s ≡ statement_of_case case key number draws.old.state) }
     ensures state { OnOk result (draws.new.state ≡ (if case == 7 then stepped draws.old.state else draws.old.state)) }
 {
     match case {

@@ -11,7 +11,7 @@ use Rattle.std.proofs.lemmas.Bool.{false≢true, eqb-true}
 use Rattle.std.proofs.lemmas.Cmp.{tied_itself, nat_eq_equiv}
 use Rattle.ctr_model.specs.Maps.{without}
 use Rattle.ctr_model.proofs.Sessions.{known, find-without-other}
-use Rattle.ctr_locks.specs.Held.{LocksOfSession, holds_nothing, locks_key, held_by_session, session_locks, first_that, locked_among, OneHolder, IsHolder, HasRoomForKey, HasRoomForName, OfSession, SameHeld, LocksEntryKey, UsesName, HoldsName, FreesAll, IsFound}
+use Rattle.ctr_locks.specs.Held.{LocksOfSession, holds_nothing, locks_key, held_by_session, session_locks, first_that, locked_among, OneHolder, IsHolder, HasRoomForKey, HasRoomForName, OfSession, SameHeld, LocksEntryKey, UsesName, HoldsName, FreesAll, IsSessionThere}
 use Rattle.ctr_locks.proofs.Maps.{found, Written, updated, through, in_order, int_exact, nat_exact}
 
 abbrev pub Sessions : Type 0
@@ -45,7 +45,7 @@ module _ (m : BTreeMap ℕ LocksOfSession) (view : Sessions) (view_is : m.entrie
   pub no_name_room : {A : Type 0} (name : List ℕ) → None ≡ get_by (nat_cmp s) m → HasRoomForName name (held_by_session s view) → A
   no_name_room name none room = absurd (false≢true (subst (HasRoomForName name) (by_is None none) room))
 
-  pub not_there : {A : Type 0} → None ≡ get_by (nat_cmp s) m → IsFound s view → A
+  pub not_there : {A : Type 0} → None ≡ get_by (nat_cmp s) m → IsSessionThere s view → A
   not_there none there = absurd (false≢true (sym (ap is_some (session_is None none)) ∙ there))
 
   -- a session that was found is written
@@ -70,7 +70,7 @@ module _ (m : BTreeMap ℕ LocksOfSession) (view : Sessions) (view_is : m.entrie
     pub put_same : None ≡ get_by (nat_cmp s) m → p ≡ Some holds_nothing → OfSession s SameHeld view new.entries
     put_same none is = of_session SameHeld view new.entries s None p (session_is None none) replaced (subst (SameHeld holds_nothing) (sym (ap (λ o. unwrap_or o holds_nothing) is)) (same_held holds_nothing))
 
-    pub put_there : p ≡ Some holds_nothing → IsFound s new.entries
+    pub put_there : p ≡ Some holds_nothing → IsSessionThere s new.entries
     put_there is = ap is_some (replaced.here ∙ is)
 
 -- one change behind another

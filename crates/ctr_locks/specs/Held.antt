@@ -84,8 +84,8 @@ abbrev pub session_holds : ℕ → List ℕ → List (ℕ × LocksOfSession) →
 session_holds s name sessions = holds_name name (held_by_session s sessions)
 
 -- the session is there, with something or nothing
-abbrev pub IsFound : ℕ → List (ℕ × LocksOfSession) → Type 0
-IsFound s sessions = is_some (find nat_cmp s sessions) ≡ true
+abbrev pub IsSessionThere : ℕ → List (ℕ × LocksOfSession) → Type 0
+IsSessionThere s sessions = is_some (find nat_cmp s sessions) ≡ true
 
 -- each session stands once, in order of number
 abbrev pub IsInOrder : List (ℕ × LocksOfSession) → Type 0

@@ -1,6 +1,6 @@
 // The locks of all sessions.
 ghost use Rattle.std.specs.Prelude.{◌≡◌, true, false, [], OnOk, OnErr};
-ghost use Rattle.ctr_locks.specs.Held.{locks_key, first_that, busy_among, locked_among, held_by_session, held_told, IsInOrder, OneHolder, IsHolder, HasRoomForKey, HasRoomForName, OfSession, SameHeld, LocksEntryKey, UsesName, HoldsName, FreesAll, IsFound};
+ghost use Rattle.ctr_locks.specs.Held.{locks_key, first_that, busy_among, locked_among, held_by_session, held_told, IsInOrder, OneHolder, IsHolder, HasRoomForKey, HasRoomForName, OfSession, SameHeld, LocksEntryKey, UsesName, HoldsName, FreesAll, IsSessionThere};
 
 use crate::held::Held;
 use crate::session::SessionLocks;
@@ -84,7 +84,7 @@ impl KeyLocks {
     // A session that has nothing is there.
     fn make_session(&mut self, alloc: Global, s: u8) -> Result<(), OutOfMemory>
         ensures same { OfSession s SameHeld self.old self.new }
-        ensures there { OnOk result (IsFound s self.new) }
+        ensures there { OnOk result (IsSessionThere s self.new) }
     {
         if self.sessions.get(&s).is_none() {
             self.sessions.insert(s, SessionLocks::new(alloc))?;

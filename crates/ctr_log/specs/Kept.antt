@@ -160,8 +160,8 @@ next_file LogA = LogB
 next_file f = LogA
 
 -- How the begin of a generation leaves the writer, whose first record has so many bytes: room isn't
--- lost. At Ok it writes in the other file, in which the closed gate stands behind that record alone;
--- else it is as it was.
+-- lost. At Ok it writes in the other file, in which the closed gate stands behind that record
+-- alone; else it is as it was.
 pub record KeepsWriter {T E : Type 0} (bytes : ℕ) (old new : Log) (result : Result T E) : Type 0
   where
     pub room : old.room ≤ new.room
@@ -169,8 +169,8 @@ pub record KeepsWriter {T E : Type 0} (bytes : ℕ) (old new : Log) (result : Re
     pub place : OnOk result (new.place ≡ 29 + bytes)
     pub still : OnErr result (new ≡ record old { room = new.room })
 
--- Behind a begin of a generation the writer goes on behind its one record in the other file, whatever
--- that had, and the other files are as they were.
+-- Behind a begin of a generation the writer goes on behind its one record in the other file,
+-- whatever that had, and the other files are as they were.
 pub record BeginsFile (r : List ℕ) (old new : Log) (was now : Image) : Type 0 where
   pub others : OtherFilesStay (next_file old.file) was now
   pub goes_on : GoesOn old.first ((r ∷ []) ∷ []) new now
@@ -215,8 +215,8 @@ abbrev pub writer_file : Bool → ℕ → File
 writer_file false file = log_file file
 writer_file true file = other_file file
 
--- where a writer's generation begins, by whether an older one is kept: at the root's first number, or
--- behind it
+-- where a writer's generation begins, by whether an older one is kept: at the root's first number,
+-- or behind it
 abbrev pub StartsAt : Bool → ℕ → ℕ → Type 0
 StartsAt false first start = start ≡ first
 StartsAt true first start = first < start

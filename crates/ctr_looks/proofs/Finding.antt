@@ -19,7 +19,7 @@ use Rattle.ctr_asking.specs.declared.asker.Answer.TheVariants.{Refused, Free}
 use Rattle.ctr_asking.specs.Asking.{Asking, FindsTable, IsInCatalog, refusal_told, sees_for}
 use Rattle.ctr_session_world.specs.World.{SessionsHeld, names_in}
 use Rattle.ctr_session_world.specs.Told.{IsNextOf}
-use Rattle.ctr_looks.specs.Granting.{IsFree}
+use Rattle.ctr_looks.specs.Granting.{IsUnopposed}
 use Rattle.ctr_looks.specs.Asked.{IsAsked, IsLook, StandsAt}
 use Rattle.ctr_looks.proofs.Unrefused.{refused_so}
 
@@ -32,7 +32,7 @@ module _ {D : Type 0} (g : Ghosts D) (c : Start) (opened : D) (a b : View D) (as
   refusal_is : refusal_of k.state asker.s k.t x statement ≡ refusal_of (state_now c next.mind) asker.s seat.t x statement
   refusal_is = λ i. refusal_of (state_is i) asker.s (t_is i) x statement
 
-  abbrev is_free : refusal_of k.state asker.s k.t x statement ≡ None → IsFree next x
+  abbrev is_free : refusal_of k.state asker.s k.t x statement ≡ None → IsUnopposed next x
   is_free none = record { txn = txn; in_it = in_it; seat = seat; same = same; calm = calm; free = sym refusal_is ∙ none }
 
   -- the laws of a table that is found

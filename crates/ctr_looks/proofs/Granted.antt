@@ -42,12 +42,12 @@ use Rattle.ctr_session_world.specs.kept_Turns.{Start, Carries, InTransaction, ca
 use Rattle.ctr_session_world.proofs.kept_Tables.{uses_more}
 use Rattle.ctr_session_world.specs.stops_World.{KeepsWorld}
 use Rattle.ctr_session_world.specs.txn_Held.{TxnsHeld, run_of}
-use Rattle.ctr_session_world.specs.ctr_told.Turning.{facts_idle, IsIdle}
+use Rattle.ctr_session_world.specs.ctr_told.Turning.{facts_idle, IdleCountsOn}
 use Rattle.ctr_session_world.proofs.ctr_told.Idle.{carried_more, idle_blanks, idle_more, idle_none, idle_open}
 use Rattle.ctr_looks.specs.declared.taking.RowAt.{RowAt}
 use Rattle.ctr_session_world.specs.World.{SessionsHeld, IsInTable, names_in}
-use Rattle.ctr_session_world.specs.Told.{IsNextOf, IsTold}
-use Rattle.ctr_looks.specs.Granting.{IsFree, IsRowOf, KeepsSessions, TakesRow}
+use Rattle.ctr_session_world.specs.Told.{IsNextOf, IsActTold}
+use Rattle.ctr_looks.specs.Granting.{IsUnopposed, WritesRowOf, KeepsSessions, TakesRow}
 use Rattle.ctr_session_world.proofs.Alike.{AreAlike, alike_itself, any_twice, in_table_still, shows_alike}
 use Rattle.ctr_session_world.proofs.Changed.{changed_told, facts_own}
 use Rattle.ctr_session_world.proofs.Standing.{told_state}
@@ -118,7 +118,7 @@ row_keeps_schema (st.Select table at) key is = refl
 row_keeps_schema (st.Update table sets at) key is = refl
 row_keeps_schema (st.Delete table at) key is = refl
 
-module _ {D : Type 0} (g : Ghosts D) (c : Start) (opened : D) (a b : View D) (h : SessionsHeld) (s : ℕ) (statement : Statement) (next : IsNextOf g c opened a b h s statement 0) (free : IsFree next act.Lock) where
+module _ {D : Type 0} (g : Ghosts D) (c : Start) (opened : D) (a b : View D) (h : SessionsHeld) (s : ℕ) (statement : Statement) (next : IsNextOf g c opened a b h s statement 0) (free : IsUnopposed next act.Lock) where
   abbrev w : Mind
   w = next.mind
 
@@ -135,7 +135,7 @@ module _ {D : Type 0} (g : Ghosts D) (c : Start) (opened : D) (a b : View D) (h 
   pub grants : Allowed state s act.Lock statement reply.Granted
   grants = inl (sym is_granted)
 
-  module _ (row : RowAt) (of : IsRowOf next row) where
+  module _ (row : RowAt) (of : WritesRowOf next row) where
     abbrev name : List ℕ
     name = row.name.now
 
@@ -264,7 +264,7 @@ module _ {D : Type 0} (g : Ghosts D) (c : Start) (opened : D) (a b : View D) (h 
         facts_are : counting.facts ≡ with_facts s mine w.facts
         facts_are = ap (with_facts s mine) facts ∙ facts_twice s mine (facts_idle ++ more) w.facts
 
-        pub locked_told : (told : IsTold next (record { txns = new; locks = left }) act.Lock reply.Granted) × IsAmong (HasTable e title) (told.mind.facts s)
+        pub locked_told : (told : IsActTold next (record { txns = new; locks = left }) act.Lock reply.Granted) × IsAmong (HasTable e title) (told.mind.facts s)
         locked_told =
             let its = changed_told g c opened a b h s statement 0 next act.Lock reply.Granted u now refl counting mine facts_are left (others mid left room takes) same (own mid left room takes)
             new run_now undo longer (told_now counting longer) shows (counted, (tt, tables), refl) keeps_now in (
@@ -275,6 +275,6 @@ module _ {D : Type 0} (g : Ghosts D) (c : Start) (opened : D) (a b : View D) (h 
             )
 
 -- what a session without a number counts on between two statements
-pub idle_reader : (n me : ℕ) (more facts : List Fact) → n ≡ me → me ≡ 0 → IsIdle n more facts → facts ≡ []
+pub idle_reader : (n me : ℕ) (more facts : List Fact) → n ≡ me → me ≡ 0 → IdleCountsOn n more facts → facts ≡ []
 idle_reader n me more facts is none (inl idle) = absurd (none_below n idle.0 (is ∙ none))
 idle_reader n me more facts is none (inr idle) = idle.1

@@ -34,10 +34,10 @@ use Rattle.ctr_session_world.specs.txn_Held.{TxnsHeld, run_of}
 use Rattle.ctr_session_world.specs.ctr_told.Turning.{facts_idle}
 use Rattle.ctr_session_world.proofs.ctr_told.Idle.{carried_more, idle_blanks, idle_more, idle_none, idle_open}
 use Rattle.ctr_session_world.specs.World.{SessionsHeld, IsInTable, names_in}
-use Rattle.ctr_session_world.specs.Told.{IsNextOf, IsTold}
+use Rattle.ctr_session_world.specs.Told.{IsNextOf, IsActTold}
 use Rattle.ctr_looks.specs.declared.tables.TableWrite.{TableWrite}
 use Rattle.ctr_looks.specs.Asked.{IsFoundFor, StandsAt}
-use Rattle.ctr_looks.specs.Granting.{CountsOnFound, IsFree, KeepsSessions}
+use Rattle.ctr_looks.specs.Granting.{CountsOnFound, IsUnopposed, KeepsSessions}
 use Rattle.ctr_looks.specs.Locking.{IsWriteOf, MayWriteTable}
 use Rattle.ctr_looks.proofs.Granted.{MayCount, any_last, facts_twice}
 use Rattle.ctr_looks.proofs.Tabled.{absent, found_of}
@@ -45,7 +45,7 @@ use Rattle.ctr_session_world.proofs.Alike.{held_more, in_table_still}
 use Rattle.ctr_session_world.proofs.Changed.{changed_told}
 use Rattle.ctr_session_world.proofs.Standing.{told_state}
 
-module _ {D : Type 0} (g : Ghosts D) (c : Start) (opened : D) (a b : View D) (h : SessionsHeld) (s : ℕ) (statement : Statement) (next : IsNextOf g c opened a b h s statement 0) (free : IsFree next act.Lock)
+module _ {D : Type 0} (g : Ghosts D) (c : Start) (opened : D) (a b : View D) (h : SessionsHeld) (s : ℕ) (statement : Statement) (next : IsNextOf g c opened a b h s statement 0) (free : IsUnopposed next act.Lock)
     (name : List ℕ) (named : table_of statement ≡ Some name) (keyless : key_written statement ≡ None) where
   abbrev w : Mind
   w = next.mind
@@ -80,7 +80,7 @@ module _ {D : Type 0} (g : Ghosts D) (c : Start) (opened : D) (a b : View D) (h 
         in_table_still a.now a.now f t u (w.facts s) (facts_idle ++ more) refl (λ n is. held_more n name t.holds is) (mine_is f ((area_in a.now).title f)) (next.world.tables s f k t was free.seat.is_t)
 
     pub held_told : (new : TxnsHeld) (v : Mind) → v.tape ≡ w.tape ++ entry_of s next.e act.Lock reply.Granted ∷ [] → v.facts ≡ with_facts s (facts_idle ++ more) w.facts → v.run ≡ run_of new → v.undo ≡ w.undo
-        → ((f : ℕ) → (area_in b.now).title f ≡ (area_in a.now).title f) → ShowsKeyLocks (names_in a.now) mid.locks state → HoldShows → KeepsWorld g c opened b v → (told : IsTold next (record { txns = new; locks = left }) act.Lock reply.Granted) × (told.mind ≡ v)
+        → ((f : ℕ) → (area_in b.now).title f ≡ (area_in a.now).title f) → ShowsKeyLocks (names_in a.now) mid.locks state → HoldShows → KeepsWorld g c opened b v → (told : IsActTold next (record { txns = new; locks = left }) act.Lock reply.Granted) × (told.mind ≡ v)
     held_told new v longer facts run_now undo same shows hold keeps =
         changed_told g c opened a b h s statement 0 next act.Lock reply.Granted u now refl v (facts_idle ++ more) facts left others same own new run_now undo longer (told_now v longer)
         (hold (names_in a.now) s name mid.locks left state t holds shows free.seat.is_t) (more, tables, refl) keeps
@@ -126,7 +126,7 @@ one_more x e its more (inr (inr there)) = inr (inr (inr there))
 carried_now : (s : ℕ) (mine : List Fact) (facts : ℕ → List Fact) → with_facts s mine facts s ≡ mine
 carried_now s mine facts = ap (λ x. cond x mine (facts s)) (eq-eqb s s refl)
 
-module _ {D : Type 0} (g : Ghosts D) (c : Start) (opened : D) (a b : View D) (h : SessionsHeld) (s : ℕ) (statement : Statement) (next : IsNextOf g c opened a b h s statement 0) (free : IsFree next act.Lock)
+module _ {D : Type 0} (g : Ghosts D) (c : Start) (opened : D) (a b : View D) (h : SessionsHeld) (s : ℕ) (statement : Statement) (next : IsNextOf g c opened a b h s statement 0) (free : IsUnopposed next act.Lock)
     (name : List ℕ) (named : table_of statement ≡ Some name) (keyless : key_written statement ≡ None) where
   -- the hold is told, and the table that was found is counted on
   module _ (more : List Fact) (tables : AreTables more) (mine_is : (f : ℕ) (l : Title) → IsAmong (HasTable f l) (next.mind.facts s) → IsAmong (HasTable f l) (facts_idle ++ more)) (mid : SessionsHeld) (left : List (ℕ × LocksOfSession))
@@ -134,7 +134,7 @@ module _ {D : Type 0} (g : Ghosts D) (c : Start) (opened : D) (a b : View D) (h 
       (run_now : v.run ≡ run_of new) (undo : v.undo ≡ next.mind.undo) (session : SessionHeld) (at : find nat_cmp s v.run.sessions ≡ Some session) (same : (f : ℕ) → (area_in b.now).title f ≡ (area_in a.now).title f) (shows : ShowsKeyLocks (names_in a.now) mid.locks (state_now c next.mind)) (hold : HoldShows)
       (keeps : KeepsWorld g c opened b v) (may : MayCount g) where
     pub held_found : (found : Option ℕ) → IsFoundFor free name found
-        → (told : IsTold next (record { txns = new; locks = left }) act.Lock reply.Granted) × CountsOnFound None found (area_in a.now).title (told.mind.facts s)
+        → (told : IsActTold next (record { txns = new; locks = left }) act.Lock reply.Granted) × CountsOnFound None found (area_in a.now).title (told.mind.facts s)
     held_found None stands = ((held_told g c opened a b h s statement next free name named keyless more tables mine_is mid left room holds new v longer facts run_now undo same shows hold keeps).0, tt)
     held_found (Some e) stands =
         let title = (area_in a.now).title e in

@@ -26,7 +26,7 @@ use Rattle.ctr_asking.specs.ctr_wishes.Models.{IsModels}
 use Rattle.ctr_looks.specs.declared.taking.RowAt.{RowAt}
 use Rattle.ctr_session_world.specs.World.{SessionsHeld}
 use Rattle.ctr_session_world.specs.Told.{IsNextOf}
-use Rattle.ctr_looks.specs.Granting.{IsFree, IsRowOf}
+use Rattle.ctr_looks.specs.Granting.{IsUnopposed, WritesRowOf}
 use Rattle.ctr_looks.specs.Locking.{MayWriteRow}
 use Rattle.ctr_looks.proofs.Granted.{any_last, granted_row, told_now, u}
 
@@ -42,7 +42,7 @@ row_makes_none (st.Select table at) key is = refl
 row_makes_none (st.Update table sets at) key is = refl
 row_makes_none (st.Delete table at) key is = refl
 
-module _ {D : Type 0} (g : Ghosts D) (c : Start) (opened : D) (a b : View D) (h : SessionsHeld) (s : ℕ) (statement : Statement) (next : IsNextOf g c opened a b h s statement 0) (free : IsFree next act.Lock) (row : RowAt) (of : IsRowOf next row)
+module _ {D : Type 0} (g : Ghosts D) (c : Start) (opened : D) (a b : View D) (h : SessionsHeld) (s : ℕ) (statement : Statement) (next : IsNextOf g c opened a b h s statement 0) (free : IsUnopposed next act.Lock) (row : RowAt) (of : WritesRowOf next row)
     (prepared : Prepared) where
   abbrev t : Transaction
   t = free.seat.t

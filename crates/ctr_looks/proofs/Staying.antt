@@ -18,12 +18,12 @@ use Rattle.ctr_session_world.specs.page_turns_Turns.{RestsBehind}
 use Rattle.ctr_asking.specs.Asking.{sees_for}
 use Rattle.ctr_asking.specs.declared.asker.Answer.TheVariants.{Free}
 use Rattle.ctr_session_world.specs.World.{SessionsHeld, names_in}
-use Rattle.ctr_session_world.specs.ctr_told.Turning.{IsIdle}
+use Rattle.ctr_session_world.specs.ctr_told.Turning.{IdleCountsOn}
 use Rattle.ctr_session_world.specs.Told.{IsIdleIn, IsNextOf}
 use Rattle.ctr_session_world.proofs.Idling.{idle_seat}
 use Rattle.ctr_session_world.proofs.Going.{goes, pages}
 use Rattle.ctr_looks.specs.declared.taking.RowAt.{RowAt}
-use Rattle.ctr_looks.specs.Granting.{IsFree, IsRowOf}
+use Rattle.ctr_looks.specs.Granting.{IsUnopposed, WritesRowOf}
 use Rattle.ctr_looks.specs.Asked.{IsAsked, IsFoundFor, StandsAt}
 
 module _ {D : Type 0} (g : Ghosts D) (c : Start) (opened : D) (a m b : View D) (h : SessionsHeld) (s : ℕ) (statement : Statement) (made : ℕ) (next : IsNextOf g c opened a b h s statement made)
@@ -35,11 +35,11 @@ module _ {D : Type 0} (g : Ghosts D) (c : Start) (opened : D) (a m b : View D) (
   same = pages g c opened a m b h s statement made next rested keeps later
 
   -- nothing speaks against it that didn't before
-  abbrev pub goes_free : (x : Act) → IsFree next x → IsFree now_next x
+  abbrev pub goes_free : (x : Act) → IsUnopposed next x → IsUnopposed now_next x
   goes_free x free = record { txn = free.txn; in_it = free.in_it; seat = free.seat; same = free.same; calm = free.calm; free = free.free }
 
   -- and the table that was found is still there
-  pub goes_stands : (x : Act) (free : IsFree next x) (name : List ℕ) (e : ℕ) → StandsAt free name e → StandsAt (goes_free x free) name e
+  pub goes_stands : (x : Act) (free : IsUnopposed next x) (name : List ℕ) (e : ℕ) → StandsAt free name e → StandsAt (goes_free x free) name e
   goes_stands x free name e stands = record {
     inside = stands.inside;
     found = subst (λ (q : Stored). IsEntryFound (sees_for (site_of q) free.txn) name (area_in q) e) (sym same) stands.found;
@@ -49,11 +49,11 @@ module _ {D : Type 0} (g : Ghosts D) (c : Start) (opened : D) (a m b : View D) (
     only = λ key. subst (λ (q : Stored). IsOnlyEntry (names_in q) s e key h.locks) (sym same) (stands.only key);
   }
 
-  pub goes_found : (x : Act) (free : IsFree next x) (name : List ℕ) (found : Option ℕ) → IsFoundFor free name found → IsFoundFor (goes_free x free) name found
+  pub goes_found : (x : Act) (free : IsUnopposed next x) (name : List ℕ) (found : Option ℕ) → IsFoundFor free name found → IsFoundFor (goes_free x free) name found
   goes_found x free name None stands = tt
   goes_found x free name (Some e) stands = goes_stands x free name e stands
 
-  pub goes_row : (row : RowAt) → IsRowOf next row → IsRowOf now_next row
+  pub goes_row : (row : RowAt) → WritesRowOf next row → WritesRowOf now_next row
   goes_row row of = record {
     named = of.named;
     key = of.key;
@@ -66,13 +66,13 @@ module _ {D : Type 0} (g : Ghosts D) (c : Start) (opened : D) (a m b : View D) (
 
 -- who isn't refused is free
 abbrev pub free_of : {D : Type 0} (g : Ghosts D) (c : Start) (opened : D) (a b : View D) (h : SessionsHeld) (s : ℕ) (statement : Statement) (made : ℕ) (next : IsNextOf g c opened a b h s statement made) (x : Act) (found : Option ℕ)
-    → IsAsked next x (Free found) → IsFree next x
+    → IsAsked next x (Free found) → IsUnopposed next x
 free_of g c opened a b h s statement made next x None is = is.1
 free_of g c opened a b h s statement made next x (Some e) is = is.0
 
 -- what a free session counts on, by its number
-pub idle_free : {D : Type 0} (g : Ghosts D) (c : Start) (opened : D) (a b : View D) (h : SessionsHeld) (s : ℕ) (statement : Statement) (made : ℕ) (next : IsNextOf g c opened a b h s statement made) (x : Act) (free : IsFree next x)
-    → IsIdleIn c next.mind s → (more : List Fact) × IsIdle free.txn.session.me more (next.mind.facts s)
+pub idle_free : {D : Type 0} (g : Ghosts D) (c : Start) (opened : D) (a b : View D) (h : SessionsHeld) (s : ℕ) (statement : Statement) (made : ℕ) (next : IsNextOf g c opened a b h s statement made) (x : Act) (free : IsUnopposed next x)
+    → IsIdleIn c next.mind s → (more : List Fact) × IdleCountsOn free.txn.session.me more (next.mind.facts s)
 idle_free g c opened a b h s statement made next x free idle =
     let its = idle_seat g c opened a h next.mind s next.world free.seat idle in
-    (its.0, subst (λ (q : SessionHeld). IsIdle q.me its.0 (next.mind.facts s)) free.same its.1)
+    (its.0, subst (λ (q : SessionHeld). IdleCountsOn q.me its.0 (next.mind.facts s)) free.same its.1)

@@ -25,7 +25,7 @@ use Rattle.ctr_session_world.specs.World.{SessionsHeld}
 use Rattle.ctr_looks.specs.declared.tables.TableWrite.{TableWrite}
 use Rattle.ctr_looks.specs.declared.tables.TableWrite.TheVariants.{Make, Drop}
 use Rattle.ctr_looks.specs.Asked.{IsAsked, IsFoundFor, StandsAt}
-use Rattle.ctr_looks.specs.Granting.{IsFree}
+use Rattle.ctr_looks.specs.Granting.{IsUnopposed}
 use Rattle.ctr_looks.specs.Locking.{IsWriteOf, table_write}
 use Rattle.ctr_looks.proofs.Staying.{free_of}
 
@@ -102,7 +102,7 @@ module _ {D : Type 0} (g : Ghosts D) (c : Start) (opened : D) (a b : View D) (h 
           (λ yes. false≢true (ap is_some (sym none ∙ ap (λ b. cond b (Some Make) (Some (Drop e))) yes)))
           (λ no. false≢true (ap is_some (sym none ∙ ap (λ b. cond b (Some Make) (Some (Drop e))) no)))
 
-  abbrev pub its_free : IsFree next act.Lock
+  abbrev pub its_free : IsUnopposed next act.Lock
   its_free = free_of g c opened a b h s statement 0 next act.Lock found asked
 
   -- and the table that it drops stands where it was found

@@ -21,7 +21,7 @@ use Rattle.ctr_asking.specs.declared.asker.Answer.TheVariants.{Refused, Free}
 use Rattle.ctr_asking.specs.Asking.{IsInside, sees_for}
 use Rattle.ctr_session_world.specs.World.{SessionsHeld, names_in}
 use Rattle.ctr_session_world.specs.Told.{IsNextOf}
-use Rattle.ctr_looks.specs.Granting.{IsFree}
+use Rattle.ctr_looks.specs.Granting.{IsUnopposed}
 
 -- a Lock or a Read
 abbrev pub IsLook : Act → Type 0
@@ -38,11 +38,11 @@ abbrev pub FreesInside : ℕ → TxnsHeld → Answer → Type 0
 FreesInside s txns (Refused why) = Unit {0}
 FreesInside s txns (Free found) = IsInside s txns
 
--- The session has found the table of a name at an entry: it is live, nobody has dropped it, and whoever
--- else has the lock of a key in a table of the name has it there.
+-- The session has found the table of a name at an entry: it is live, nobody has dropped it, and
+-- whoever else has the lock of a key in a table of the name has it there.
 pub record StandsAt {D : Type 0} {g : Ghosts D} {c : Start} {opened : D} {a b : View D}
     {h : SessionsHeld} {s : ℕ} {statement : Statement} {made : ℕ}
-    {next : IsNextOf g c opened a b h s statement made} {x : Act} (free : IsFree next x)
+    {next : IsNextOf g c opened a b h s statement made} {x : Act} (free : IsUnopposed next x)
     (name : List ℕ) (e : ℕ) : Type 0 where
   pub inside : e < 32
   pub found : IsEntryFound (sees_for (site_of a.now) free.txn) name (area_in a.now) e
@@ -55,17 +55,17 @@ pub record StandsAt {D : Type 0} {g : Ghosts D} {c : Start} {opened : D} {a b : 
 abbrev pub IsFoundFor : {D : Type 0} {g : Ghosts D} {c : Start} {opened : D} {a b : View D}
     {h : SessionsHeld} {s : ℕ} {statement : Statement} {made : ℕ}
     {next : IsNextOf g c opened a b h s statement made} {x : Act}
-    → IsFree next x → List ℕ → Option ℕ → Type 0
+    → IsUnopposed next x → List ℕ → Option ℕ → Type 0
 IsFoundFor free name None = Unit {0}
 IsFoundFor free name (Some e) = StandsAt free name e
 
--- The refusal that is told is one that the tape allows. Or nothing speaks against the act; and where
--- a table isn't to be made, it stands at the entry that is told.
+-- The refusal that is told is one that the tape allows. Or nothing speaks against the act; and
+-- where a table isn't to be made, it stands at the entry that is told.
 abbrev pub IsAsked : {D : Type 0} {g : Ghosts D} {c : Start} {opened : D} {a b : View D}
     {h : SessionsHeld} {s : ℕ} {statement : Statement} {made : ℕ}
     → IsNextOf g c opened a b h s statement made → Act → Answer → Type 0
 IsAsked {c = c} {s = s} {statement = statement} next x (Refused why) =
     Allowed (state_now c next.mind) s x statement (reply.Refused why)
-IsAsked {statement = statement} next x (Free None) = (creates statement ≡ true) × IsFree next x
-IsAsked {statement = statement} next x (Free (Some e)) = (free : IsFree next x)
+IsAsked {statement = statement} next x (Free None) = (creates statement ≡ true) × IsUnopposed next x
+IsAsked {statement = statement} next x (Free (Some e)) = (free : IsUnopposed next x)
     × ((name : List ℕ) → table_of statement ≡ Some name → StandsAt free name e)

@@ -30,7 +30,7 @@ use Rattle.ctr_session_world.specs.Told.{IsNextOf}
 
 -- Nothing speaks against an act of the statement that comes next: its session is in a transaction,
 -- hasn't asked for its commit, and isn't within its rollback; and the model doesn't refuse the act.
-pub record IsFree {D : Type 0} {g : Ghosts D} {c : Start} {opened : D} {a b : View D}
+pub record IsUnopposed {D : Type 0} {g : Ghosts D} {c : Start} {opened : D} {a b : View D}
     {h : SessionsHeld} {s : ℕ} {statement : Statement} {made : ℕ}
     (next : IsNextOf g c opened a b h s statement made) (x : Act) : Type 0 where
   pub txn : TxnHeld
@@ -40,15 +40,16 @@ pub record IsFree {D : Type 0} {g : Ghosts D} {c : Start} {opened : D} {a b : Vi
   pub calm : IsCalm txn.session seat.t
   pub free : refusal_of (state_now c next.mind) s seat.t x statement ≡ None
 
--- It makes or drops the table of a name.
+-- A statement makes or drops the table of a name.
 pub record IsOfName (statement : Statement) (name : List ℕ) : Type 0 where
   pub named : table_of statement ≡ Some name
   pub keyless : key_written statement ≡ None
   pub schema : changes_schema statement ≡ true
 
--- It writes the row of a key in a table that its session has found at an entry: the table is live,
--- nobody has dropped it, and whoever else has the key's lock in a table of the name has it there.
-pub record IsRowOf {D : Type 0} {g : Ghosts D} {c : Start} {opened : D} {a b : View D}
+-- A statement writes the row of a key in a table that its session has found at an entry: the table
+-- is live, nobody has dropped it, and whoever else has the key's lock in a table of the name has it
+-- there.
+pub record WritesRowOf {D : Type 0} {g : Ghosts D} {c : Start} {opened : D} {a b : View D}
     {h : SessionsHeld} {s : ℕ} {statement : Statement} {made : ℕ}
     (next : IsNextOf g c opened a b h s statement made) (row : RowAt) : Type 0 where
   pub named : table_of statement ≡ Some row.name.now
@@ -101,14 +102,14 @@ pub record DrawsNext {D : Type 0} (g : Ghosts D) (s : ℕ) (old new : TxnsHeld) 
   pub run : (t : SessionHeld) → find nat_cmp s (run_of old).sessions ≡ Some t → (t.me ≡ 0)
       × (run_of new ≡ held_as s (record t { me = a.now.tables.next }) (run_of old))
 
--- Or it had one, and nothing was logged.
+-- A session had a number already, and nothing was logged.
 pub record HasDrawn {D : Type 0} (g : Ghosts D) (s : ℕ) (old new : TxnsHeld) (a b : View D)
     : Type 0 where
   pub rests : RestsBehind g a b
   pub some : (t : SessionHeld) → find nat_cmp s (run_of old).sessions ≡ Some t → 0 < t.me
   pub run : run_of new ≡ run_of old
 
--- one of these two
+-- A session has drawn its number by this call, or had one.
 abbrev pub HasNumber : {D : Type 0} → Ghosts D → ℕ → TxnsHeld → TxnsHeld → View D → View D → Type 0
 HasNumber g s old new a b = DrawsNext g s old new a b ⊎ HasDrawn g s old new a b
 

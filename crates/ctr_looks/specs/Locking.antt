@@ -37,8 +37,8 @@ abbrev pub locked_unread : ReadRefusal → Result Locked StoreFault
 locked_unread (unread.Store fault) = Err fault
 locked_unread unread.OutOfMemory = Ok (Refused refusal.OutOfMemory)
 
--- The Write may be begun, whatever the disk tells: the entry that is told is one of the catalog, and
--- room is kept for an item of its session's.
+-- The Write may be begun, whatever the disk tells: the entry that is told is one of the catalog,
+-- and room is kept for an item of its session's.
 abbrev pub IsReadyLocked : ℕ → TxnsHeld → Locked → Type 0
 IsReadyLocked s txns (Refused why) = Unit {0}
 IsReadyLocked s txns (Granted entry prepared) = (entry < 32) × HasItem s txns

@@ -8,12 +8,12 @@ ghost use Rattle.ctr_record_effects.specs.States.{area_in};
 ghost use Rattle.ctr_record_effects.specs.Standing.{IsDatabaseState};
 ghost use Rattle.ctr_session_world.specs.actions_Facts.{Fact};
 ghost use Rattle.ctr_session_world.specs.kept_Turns.{Start};
-ghost use Rattle.ctr_session_world.specs.ctr_told.Turning.{IsIdle};
+ghost use Rattle.ctr_session_world.specs.ctr_told.Turning.{IdleCountsOn};
 ghost use Rattle.ctr_asking.specs.Asking.{IsInside};
 ghost use Rattle.ctr_session_world.specs.Ready.{LeavesOver, MayTurn, LeavesDisk};
-ghost use Rattle.ctr_session_world.specs.Told.{IsNextOf, IsTold};
+ghost use Rattle.ctr_session_world.specs.Told.{IsNextOf, IsActTold};
 ghost use Rattle.ctr_looks.specs.Asked.{IsFirstOf, IsFoundFor};
-ghost use Rattle.ctr_looks.specs.Granting.{IsFree, IsRowOf, IsOfName, CountsOnTable, CountsOnFound, HasItemIfGranted, granted_or};
+ghost use Rattle.ctr_looks.specs.Granting.{IsUnopposed, WritesRowOf, IsOfName, CountsOnTable, CountsOnFound, HasItemIfGranted, granted_or};
 
 use crate::drawing::draw;
 use crate::grants::{
@@ -45,8 +45,8 @@ pub(crate) fn grant_row<D: Disk, O: Origin>(
     ensures over { LeavesOver s txns.old txns.new store.old store.new result }
     ensures item { IfOk result (HasItemIfGranted s txns.new) }
     ensures told { (c : Start) (opened : D) (statement : Told) (more : List Fact) → WhereSound O.first D.Disk
-        ((next : IsNextOf D.Disk c opened store.old store.new (record { txns = txns.old; locks = locks.old }) s statement 0) → (free : IsFree next act.Lock) → IsRowOf next row.now → IsIdle free.txn.session.me more (next.mind.facts s)
-        → IfOk result (λ r. (told : IsTold next (record { txns = txns.new; locks = locks.new }) act.Lock (granted_or r)) × CountsOnTable r row.now.entry ((area_in store.old.now).title row.now.entry) (told.mind.facts s))) }
+        ((next : IsNextOf D.Disk c opened store.old store.new (record { txns = txns.old; locks = locks.old }) s statement 0) → (free : IsUnopposed next act.Lock) → WritesRowOf next row.now → IdleCountsOn free.txn.session.me more (next.mind.facts s)
+        → IfOk result (λ r. (told : IsActTold next (record { txns = txns.new; locks = locks.new }) act.Lock (granted_or r)) × CountsOnTable r row.now.entry ((area_in store.old.now).title row.now.entry) (told.mind.facts s))) }
     ensures refused { WhereSound O.first D.Disk (IsDatabaseState store.old.now → IfErr result (λ e. e ≡ Fault)) }
     ensures disk { LeavesDisk O.first D.Disk store.old store.new result }
 {
@@ -91,8 +91,8 @@ pub(crate) fn grant_name<D: Disk, O: Origin>(
     ensures over { LeavesOver s txns.old txns.new store.old store.new result }
     ensures item { IfOk result (HasItemIfGranted s txns.new) }
     ensures told { (c : Start) (opened : D) (statement : Told) (more : List Fact) → WhereSound O.first D.Disk
-        ((next : IsNextOf D.Disk c opened store.old store.new (record { txns = txns.old; locks = locks.old }) s statement 0) → (free : IsFree next act.Lock) → IsFirstOf act.Lock statement → IsOfName statement name.now → (found : Option ℕ) → IsFoundFor free name.now found → IsIdle free.txn.session.me more (next.mind.facts s)
-        → IfOk result (λ r. (told : IsTold next (record { txns = txns.new; locks = locks.new }) act.Lock (granted_or r)) × CountsOnFound r found (area_in store.old.now).title (told.mind.facts s))) }
+        ((next : IsNextOf D.Disk c opened store.old store.new (record { txns = txns.old; locks = locks.old }) s statement 0) → (free : IsUnopposed next act.Lock) → IsFirstOf act.Lock statement → IsOfName statement name.now → (found : Option ℕ) → IsFoundFor free name.now found → IdleCountsOn free.txn.session.me more (next.mind.facts s)
+        → IfOk result (λ r. (told : IsActTold next (record { txns = txns.new; locks = locks.new }) act.Lock (granted_or r)) × CountsOnFound r found (area_in store.old.now).title (told.mind.facts s))) }
     ensures refused { WhereSound O.first D.Disk (IsDatabaseState store.old.now → IfErr result (λ e. e ≡ Fault)) }
     ensures disk { LeavesDisk O.first D.Disk store.old store.new result }
 {

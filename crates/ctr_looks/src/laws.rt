@@ -15,7 +15,7 @@ ghost use Rattle.ctr_session_world.specs.page_turns_Turns.{RestsBehind};
 ghost use Rattle.ctr_asking.specs.declared.asker.Asker.{Asker};
 ghost use Rattle.ctr_asking.specs.Asking.{Asking};
 ghost use Rattle.ctr_session_world.specs.World.{SessionsHeld, InWorld};
-ghost use Rattle.ctr_session_world.specs.Told.{IsNextOf, IsTold};
+ghost use Rattle.ctr_session_world.specs.Told.{IsNextOf, IsActTold};
 ghost use Rattle.ctr_looks.specs.Asked.{IsLook, IsFirstOf};
 
 use ctr_disk::Disk;
@@ -33,7 +33,7 @@ pub fn a_session_in_a_world_may_look<D: Disk>()
 /// A refusal that the tape allows is told of a Lock or a Read, whether its session is in a transaction or in none.
 pub(crate) fn a_refused_look_is_told<D: Disk>()
     ensures { (c : Start) (opened : D) (a b : View D) (h : SessionsHeld) (s : ℕ) (statement : Told) (next : IsNextOf D.Disk c opened a b h s statement 0) (x : Acts) → IsLook x → IsFirstOf x statement
-        → (why : Refuses) → Allowed (state_now c next.mind) s x statement (reply.Refused why) → RestsBehind D.Disk a b → IsTold next h x (reply.Refused why) }
+        → (why : Refuses) → Allowed (state_now c next.mind) s x statement (reply.Refused why) → RestsBehind D.Disk a b → IsActTold next h x (reply.Refused why) }
 {
     a_refusal_is_told::<D>();
 }

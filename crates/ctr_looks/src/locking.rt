@@ -8,13 +8,13 @@ ghost use Rattle.ctr_record_effects.specs.Standing.{IsDatabaseState};
 ghost use Rattle.ctr_session_world.specs.actions_Facts.{Fact};
 ghost use Rattle.ctr_session_world.specs.kept_Turns.{Start, state_now};
 ghost use Rattle.ctr_session_world.specs.txn_Held.{TxnsHeld};
-ghost use Rattle.ctr_session_world.specs.ctr_told.Turning.{IsIdle};
+ghost use Rattle.ctr_session_world.specs.ctr_told.Turning.{IdleCountsOn};
 ghost use Rattle.ctr_asking.specs.Asking.{IsInside};
 ghost use Rattle.ctr_session_world.specs.Ready.{LeavesOver, MayTurn, LeavesDisk};
-ghost use Rattle.ctr_session_world.specs.Told.{IsNextOf, IsTold, IsIdleIn};
-ghost use Rattle.ctr_looks.specs.Granting.{IsFree};
+ghost use Rattle.ctr_session_world.specs.Told.{IsNextOf, IsActTold, IsIdleIn};
+ghost use Rattle.ctr_looks.specs.Granting.{IsUnopposed};
 ghost use Rattle.ctr_looks.specs.Asked.{StandsAt};
-ghost use Rattle.ctr_looks.specs.Granting.{IsRowOf};
+ghost use Rattle.ctr_looks.specs.Granting.{WritesRowOf};
 ghost use Rattle.ctr_asking.specs.ctr_wishes.ctr_reading.Reading.{IsDiskOrMemory};
 ghost use Rattle.ctr_looks.specs.Locking.{IsReadyLocked, IsReadyBehind, locked_reply, locked_unread};
 
@@ -76,9 +76,9 @@ fn lock_found<D: Disk, O: Origin>(
     ensures ready { IfOk result (IsReadyLocked s txns.new) }
     ensures over { LeavesOver s txns.old txns.new store.old store.new result }
     ensures told { (c : Start) (opened : D) (more : List Fact) → WhereSound O.first D.Disk
-        ((next : IsNextOf D.Disk c opened store.old store.new (record { txns = txns.old; locks = locks.old }) s statement.now 0) → (free : IsFree next act.Lock) → StandsAt free row.now.name.now row.now.entry → IsRowOf next row.now
-        → IsIdle free.txn.session.me more (next.mind.facts s)
-        → IfOk result (λ l. (told : IsTold next (record { txns = txns.new; locks = locks.new }) act.Lock (locked_reply l)) × IsReadyBehind c s statement.now told.mind l)) }
+        ((next : IsNextOf D.Disk c opened store.old store.new (record { txns = txns.old; locks = locks.old }) s statement.now 0) → (free : IsUnopposed next act.Lock) → StandsAt free row.now.name.now row.now.entry → WritesRowOf next row.now
+        → IdleCountsOn free.txn.session.me more (next.mind.facts s)
+        → IfOk result (λ l. (told : IsActTold next (record { txns = txns.new; locks = locks.new }) act.Lock (locked_reply l)) × IsReadyBehind c s statement.now told.mind l)) }
     ensures refused { WhereSound O.first D.Disk (IsDatabaseState store.old.now → IfErr result (λ e. e ≡ Fault)) }
     ensures disk { LeavesDisk O.first D.Disk store.old store.new result }
 {
@@ -130,7 +130,7 @@ pub fn lock_row<D: Disk, O: Origin>(
     ensures over { LeavesOver s txns.old txns.new store.old store.new result }
     ensures told { (c : Start) (opened : D) → WhereSound O.first D.Disk
         ((next : IsNextOf D.Disk c opened store.old store.new (record { txns = txns.old; locks = locks.old }) s statement.now 0) → stuck.now ≡ (state_now c next.mind).stuck → IsIdleIn c next.mind s
-        → IfOk result (λ l. (told : IsTold next (record { txns = txns.new; locks = locks.new }) act.Lock (locked_reply l)) × IsReadyBehind c s statement.now told.mind l)) }
+        → IfOk result (λ l. (told : IsActTold next (record { txns = txns.new; locks = locks.new }) act.Lock (locked_reply l)) × IsReadyBehind c s statement.now told.mind l)) }
     // Where the pages may be a database's, it is refused by the disk alone.
     ensures refused { WhereSound O.first D.Disk (IsDatabaseState store.old.now → IfErr result (λ e. e ≡ Fault)) }
     // However it ends, time doesn't go back, a fault is told where the disk counts one more, and a crash in it leaves what was hardened with

@@ -12,13 +12,13 @@ ghost use Rattle.ctr_record_effects.specs.Standing.{HasSoundArea, IsDatabaseStat
 ghost use Rattle.ctr_session_world.specs.actions_Facts.{Fact};
 ghost use Rattle.ctr_session_world.specs.kept_Turns.{Start, state_now};
 ghost use Rattle.ctr_session_world.specs.page_turns_Turns.{RestsBehind};
-ghost use Rattle.ctr_session_world.specs.ctr_told.Turning.{IsIdle};
-ghost use Rattle.ctr_asking.specs.ctr_wishes.ctr_reading.Reading.{as_told, sees, AreShown, IsDiskOrMemory};
+ghost use Rattle.ctr_session_world.specs.ctr_told.Turning.{IdleCountsOn};
+ghost use Rattle.ctr_asking.specs.ctr_wishes.ctr_reading.Reading.{as_told, sight_sees, AreShown, IsDiskOrMemory};
 ghost use Rattle.ctr_asking.specs.Asking.{IsInside};
 ghost use Rattle.ctr_session_world.specs.txn_Held.{TxnsHeld};
 ghost use Rattle.ctr_session_world.specs.Ready.{LeavesOver, MayTurn, StandOver, LeavesDisk};
-ghost use Rattle.ctr_session_world.specs.Told.{IsNextOf, IsTold, IsIdleIn};
-ghost use Rattle.ctr_looks.specs.Granting.{IsFree};
+ghost use Rattle.ctr_session_world.specs.Told.{IsNextOf, IsActTold, IsIdleIn};
+ghost use Rattle.ctr_looks.specs.Granting.{IsUnopposed};
 ghost use Rattle.ctr_looks.specs.Asked.{StandsAt};
 ghost use Rattle.ctr_looks.specs.Selecting.{IsSelect};
 
@@ -72,7 +72,7 @@ pub(crate) fn rows_at<D: Disk, O: Origin>(
     requires going { store.old.stopped ≡ false }
     requires there { entry < 32 }
     ensures shows { WhereSound O.first D.Disk (HasSoundArea store.old.now
-        → IfOk result (λ rows. AreShown (sees store.old.now.tables sight.now) (area_in store.old.now) entry (option_map (λ (k : KeyWanted). k.key) at.now) rows.rows)) }
+        → IfOk result (λ rows. AreShown (sight_sees store.old.now.tables sight.now) (area_in store.old.now) entry (option_map (λ (k : KeyWanted). k.key) at.now) rows.rows)) }
     ensures refused { WhereSound O.first D.Disk (IsDatabaseState store.old.now → IfErr result IsDiskOrMemory) }
     ensures disk { LeavesDisk O.first D.Disk store.old store.new (as_told result) }
     ensures rests { WhereSound O.first D.Disk (OnOk (as_told result) (RestsBehind D.Disk store.old store.new)) }
@@ -118,8 +118,8 @@ fn read_found<D: Disk, O: Origin>(
     requires there { table.now.entry < 32 }
     ensures over { LeavesOver s txns.now txns.now store.old store.new result }
     ensures told { (c : Start) (opened : D) (more : List Fact) → WhereSound O.first D.Disk
-        ((next : IsNextOf D.Disk c opened store.old store.new (record { txns = txns.now; locks = locks.old }) s (st.Select table.now.name.now table.now.at.now) 0) → (free : IsFree next act.Read) → StandsAt free table.now.name.now table.now.entry
-        → IsIdle free.txn.session.me more (next.mind.facts s) → IfOk result (IsTold next (record { txns = txns.now; locks = locks.new }) act.Read)) }
+        ((next : IsNextOf D.Disk c opened store.old store.new (record { txns = txns.now; locks = locks.old }) s (st.Select table.now.name.now table.now.at.now) 0) → (free : IsUnopposed next act.Read) → StandsAt free table.now.name.now table.now.entry
+        → IdleCountsOn free.txn.session.me more (next.mind.facts s) → IfOk result (IsActTold next (record { txns = txns.now; locks = locks.new }) act.Read)) }
     ensures refused { WhereSound O.first D.Disk (IsDatabaseState store.old.now → IfErr result (λ e. e ≡ Fault)) }
     ensures disk { LeavesDisk O.first D.Disk store.old store.new result }
 {
@@ -174,7 +174,7 @@ pub fn read<D: Disk, O: Origin>(
     ensures over { LeavesOver s txns.now txns.now store.old store.new result }
     ensures told { (c : Start) (opened : D) → WhereSound O.first D.Disk
         ((next : IsNextOf D.Disk c opened store.old store.new (record { txns = txns.now; locks = locks.old }) s statement.now 0) → stuck.now ≡ (state_now c next.mind).stuck → IsIdleIn c next.mind s
-        → IfOk result (IsTold next (record { txns = txns.now; locks = locks.new }) act.Read)) }
+        → IfOk result (IsActTold next (record { txns = txns.now; locks = locks.new }) act.Read)) }
     // Where the pages may be a database's, it is refused by the disk alone.
     ensures refused { WhereSound O.first D.Disk (IsDatabaseState store.old.now → IfErr result (λ e. e ≡ Fault)) }
     // However it ends, time doesn't go back, a fault is told where the disk counts one more, and a crash in it leaves what was hardened with

@@ -7,7 +7,7 @@ ghost use Rattle.ctr_base.specs.Base.{WhereSound};
 ghost use Rattle.ctr_record_effects.specs.Standing.{IsDatabaseState};
 ghost use Rattle.ctr_session_world.specs.kept_Turns.{Start, state_now};
 ghost use Rattle.ctr_session_world.specs.Ready.{LeavesOver, MayTurn, LeavesDisk};
-ghost use Rattle.ctr_session_world.specs.Told.{IsNextOf, IsTold, IsIdleIn};
+ghost use Rattle.ctr_session_world.specs.Told.{IsNextOf, IsActTold, IsIdleIn};
 ghost use Rattle.ctr_looks.specs.Locking.{IsTableLocked, IsTableReadyBehind, table_locked_reply, table_write};
 
 use crate::granting::grant_name;
@@ -72,7 +72,7 @@ pub fn lock_table<D: Disk, O: Origin>(
     ensures over { LeavesOver s txns.old txns.new store.old store.new result }
     ensures told { (c : Start) (opened : D) → WhereSound O.first D.Disk
         ((next : IsNextOf D.Disk c opened store.old store.new (record { txns = txns.old; locks = locks.old }) s statement.now 0) → stuck.now ≡ (state_now c next.mind).stuck → IsIdleIn c next.mind s
-        → IfOk result (λ l. (told : IsTold next (record { txns = txns.new; locks = locks.new }) act.Lock (table_locked_reply l)) × IsTableReadyBehind c s statement.now told.mind l)) }
+        → IfOk result (λ l. (told : IsActTold next (record { txns = txns.new; locks = locks.new }) act.Lock (table_locked_reply l)) × IsTableReadyBehind c s statement.now told.mind l)) }
     // Where the pages may be a database's, it is refused by the disk alone.
     ensures refused { WhereSound O.first D.Disk (IsDatabaseState store.old.now → IfErr result (λ e. e ≡ Fault)) }
     // However it ends, time doesn't go back, a fault is told where the disk counts one more, and a crash in it leaves what was hardened with

@@ -13,7 +13,7 @@ use Rattle.ctr_model.specs.State.{transaction_of}
 use Rattle.ctr_model.specs.Reply.{next_inside, next_outside, next_from, next_state}
 use Rattle.ctr_model.specs.Tape.{statement_of, Comes}
 use Rattle.ctr_model.proofs.Outside.{next_outside-cases}
-use Rattle.ctr_machine.specs.Follow.{HasNumber}
+use Rattle.ctr_machine.specs.Follow.{HasStatementNumber}
 
 inside : (state : State) (s : ℕ) (me : Transaction) (a : Act) (of : Option Statement) (r : Reply) → (next_inside state s me a of r).answered ≤ state.answered + 1
 inside state s me a of (reply.Began n) = omega arith
@@ -38,7 +38,7 @@ answered-next state s a of r = elim (transaction_of state s) as (λ f. (next_fro
 ]
 
 -- what comes next has a number
-pub comes-number : (lines : List Line) (p : Point) (e : Entry) → e.statement < 2 ^ 64 → Comes lines p e → HasNumber lines p e
+pub comes-number : (lines : List Line) (p : Point) (e : Entry) → e.statement < 2 ^ 64 → Comes lines p e → HasStatementNumber lines p e
 comes-number lines p e small comes s is = elim comes.one_of [
   | inl next ↦ omega (arith, next.2.number, small)
   | inr release ↦ absurd (none (sym is ∙ ap (statement_of lines e.session) release.statement))

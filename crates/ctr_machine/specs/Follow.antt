@@ -7,7 +7,7 @@ use Rattle.ctr_model.specs.declared.tape.Point.{Point}
 use Rattle.ctr_model.specs.Tape.{statement_of, progress_of}
 
 -- the statement that the session has finished next still has a number
-abbrev pub HasNumber : List Line → Point → Entry → Type 0
-HasNumber lines p e =
+abbrev pub HasStatementNumber : List Line → Point → Entry → Type 0
+HasStatementNumber lines p e =
     (s : Statement) → statement_of lines e.session e.statement ≡ Some s
     → (progress_of p e.session).finished < 2 ^ 64 - 1

@@ -4,7 +4,7 @@ ghost use Rattle.std.specs.Option.{option_copied};
 ghost use Rattle.ctr_model.specs.State.{transaction_of};
 ghost use Rattle.ctr_model.specs.Tape.{statement_of, statements_of, progress_of, acts_of, goes_on, advanced, IsInTurn, Allowed, IsActOf, IsRelease, Comes, passed_by, passed, Legal, final};
 ghost use Rattle.ctr_model.specs.Reply.{MayStandFor};
-ghost use Rattle.ctr_machine.specs.Follow.{HasNumber};
+ghost use Rattle.ctr_machine.specs.Follow.{HasStatementNumber};
 
 use crate::next::next_state;
 use crate::refusals::has_name;
@@ -234,7 +234,7 @@ fn advanced(
 // Goes on to the point after an entry.
 fn pass(alloc: Global, lines: &[Line], point: &mut Point, entry: &Entry) -> Result<(), OutOfMemory>
     requires answered { point.old.state.answered < 2 ^ 64 - 1 }
-    requires finished { HasNumber lines.now point.old entry.now }
+    requires finished { HasStatementNumber lines.now point.old entry.now }
     ensures { OnOk result (point.new ≡ passed lines.now point.old entry.now) }
 {
     let statement = statement_of(lines, entry.session, entry.statement);

@@ -9,7 +9,7 @@ use Rattle.ctr_disk.specs.Image.{Image, write_of, TornImage}
 use Rattle.ctr_disk.specs.Crash.{Only, Within, Tears, Elapses, HasStray}
 use Rattle.ctr_types.specs.Faults.{raised}
 use Rattle.ctr_mem_disk.specs.Counting.{outcome_of}
-use Rattle.ctr_mem_disk.specs.Memory.{IsAnswered, IsStarved}
+use Rattle.ctr_mem_disk.specs.Memory.{IsCallAnswered, IsStarved}
 use Rattle.ctr_mem_disk.specs.Replay.{reads_by, reads_by_call, images_by, images_by_call, LeavesBy, LeavesByCall, reads_after, images_after, images_since, possible_after, possible_since, latest, IsCallRecorded}
 use Rattle.ctr_mem_disk.specs.ReplayLaws.{among_of}
 use Rattle.ctr_disk.specs.TornLaws.{torn_whole, torn_nothing}
@@ -238,7 +238,7 @@ module _ {T E : Type 0} where
     pub goes_kept : (result : Result A F) (kept : Result T E) (call : Call) (outcome ends : Outcome) (moment at : ℕ) (old new : List Recorded) (before now : ℕ)
         → IsCallRecorded kept (record { call = call; outcome = outcome; moment = moment }) old new → outcome ≡ ends → moment ≡ at → now ≡ (if is_ok kept then before else raised before)
         → IfOk result (λ v. (v ≡ value) × (outcome ≡ Done) × IsOk kept) → (IsOk kept → outcome ≡ Done → IsOk result)
-        → IsAnswered (record { call = call; outcome = ends; moment = at }) old new before now result ⊎ IsStarved old new before now result
+        → IsCallAnswered (record { call = call; outcome = ends; moment = at }) old new before now result ⊎ IsStarved old new before now result
     goes_kept result (Ok x) call outcome ends moment at old new before now is ended when_ up done answers = inl (
       is ∙ ap (λ (o : Outcome). old ++ (record { call = call; outcome = o; moment = moment }) ∷ []) ended ∙ ap (λ (m : ℕ). old ++ (record { call = call; outcome = ends; moment = m }) ∷ []) when_,
       up,

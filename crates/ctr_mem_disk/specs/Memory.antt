@@ -104,9 +104,9 @@ recorded_as call d = record {
 }
 
 -- either the call is recorded, and answered Ok exactly where it was carried out
-abbrev pub IsAnswered : {T E : Type 0} → Recorded → List Recorded → List Recorded → ℕ → ℕ
+abbrev pub IsCallAnswered : {T E : Type 0} → Recorded → List Recorded → List Recorded → ℕ → ℕ
     → Result T E → Type 0
-IsAnswered entry old new starved_old starved_new result = (new ≡ old ++ entry ∷ [])
+IsCallAnswered entry old new starved_old starved_new result = (new ≡ old ++ entry ∷ [])
     × (starved_new ≡ starved_old) × (IsOk result ↔ (entry.outcome ≡ Done))
 
 -- A call was refused for want of memory: it is no recorded call, and that is counted.
@@ -120,5 +120,5 @@ pub record DoesCall {T E : Type 0} (call : Call) (old new : MemDisk) (result : R
   pub counted : counted_calls new ≡ raised (counted_calls old)
   pub first : first_image new ≡ first_image old
   pub listed : failing_calls new ≡ failing_calls old
-  pub goes : IsAnswered (recorded_as call old) (recorded_calls old) (recorded_calls new) (starved_calls old) (starved_calls new) result
+  pub goes : IsCallAnswered (recorded_as call old) (recorded_calls old) (recorded_calls new) (starved_calls old) (starved_calls new) result
       ⊎ IsStarved (recorded_calls old) (recorded_calls new) (starved_calls old) (starved_calls new) result

@@ -3,8 +3,8 @@ use Rattle.std.specs.Prelude.{◌≡◌, ◌+◌, ◌*◌, ℕ, List, length}
 use Rattle.ctr_rec.specs.Members.{pairs_from, items_from, opens_listed, aborted_listed, items_listed}
 use Rattle.ctr_meta.specs.declared.listing.Counts.{Counts}
 
--- The counts are those of the three lists, whose members stand one behind another from the places that
--- the counts before them give.
+-- The counts are those of the three lists, whose members stand one behind another from the places
+-- that the counts before them give.
 pub record CountsMembers (lists : List ℕ) (counts : Counts) : Type 0 where
   pub opens : pairs_from 8 counts.opens lists ≡ opens_listed lists
   pub aborted : pairs_from (16 + 16 * counts.opens) counts.aborted lists ≡ aborted_listed lists

@@ -1,6 +1,6 @@
--- The grammar of scripts: bytes, tokens, and the places for tokens in statements and lines, with what
--- no token shows. How tokens are spelled at their places is Language.antt, where a text goes wrong
--- Places.antt, and what the lines of a script are Lines.antt.
+-- The grammar of scripts: bytes, tokens, and the places for tokens in statements and lines, with
+-- what no token shows. How tokens are spelled at their places is Language.antt, where a text goes
+-- wrong Places.antt, and what the lines of a script are Lines.antt.
 use Rattle.std.specs.Prelude.{◌≡◌, ◌≢◌, ◌⊎◌, ℕ, ◌+◌, ◌-◌, ◌<◌, ◌≤◌, ◌^◌, ℤ, pos, negsuc, false, List, [], ◌∷◌, ◌++◌, length, map, codes, Option, Some, None, ◌&&◌, nat_le, if◌then◌else◌}
 use Rattle.std.specs.List.{AllByRecursion}
 use Rattle.std.specs.Str.Parse.{digits_value}

@@ -1,9 +1,9 @@
 -- The language: what tokens spell.
 --
 -- It is the second form of the grammar. Tokens, statements, their places and their conditions are
--- those of the first (Grammar.antt); here keywords stand in any case, sessions are 1 to 8, and every
--- statement is taken. A form is a relation between tokens and what they spell: Places.antt and
--- Lines.antt speak of any. A word that a later form reads so only in its place, and as a name
+-- those of the first (Grammar.antt); here keywords stand in any case, sessions are 1 to 8, and
+-- every statement is taken. A form is a relation between tokens and what they spell: Places.antt
+-- and Lines.antt speak of any. A word that a later form reads so only in its place, and as a name
 -- everywhere else, comes as one more kind of place, with its case of `MatchesPart`.
 use Rattle.std.specs.Prelude.{◌≡◌, ℕ, ◌+◌, ◌≤◌, List, [], ◌∷◌, map}
 use Rattle.ctr_types.specs.declared.statement.Statement.{Statement}

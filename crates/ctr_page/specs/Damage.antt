@@ -1,4 +1,5 @@
--- What is wrong on a page: the first check that fails, in this order. A place is a byte of the page.
+-- What is wrong on a page: the first check that fails, in this order. A place is a byte of the
+-- page.
 use Rattle.std.specs.Prelude.{◌≢◌, ℕ, zero, suc, ◌+◌, ◌-◌, List, [], ◌∷◌, Result, Ok, Err, IfErr, ◌==◌, if◌then◌else◌, ⊤}
 use Rattle.ctr_rec.specs.types_Kind.{Kind}
 use Rattle.ctr_rec.specs.types_Kind.TheVariants.{Int, Chars}

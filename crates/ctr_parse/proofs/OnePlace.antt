@@ -2,7 +2,7 @@
 use Rattle.std.proofs.Common.{◌≡◌, ℕ, ◌+◌, List, [], ◌∷◌, ◌++◌, Some, Result, Ok, Err, refl, sym, ap, ◌∙◌, subst, inl, inr, append_assoc, append-nil}
 use Rattle.ctr_types.specs.declared.statement.Line.{Line}
 use Rattle.ctr_types.specs.declared.statement.Statement.{Statement}
-use Rattle.ctr_lex.specs.Tokens.{StandInOrder, IsTakenApart}
+use Rattle.ctr_lex.specs.Tokens.{TokensStandInOrder, IsTakenApart}
 use Rattle.ctr_model.specs.Grammar.{Lexes}
 use Rattle.ctr_model.specs.Places.{IsBadAt, IsTokenAt, Says, SomeBegins, GoesWrongAt, wrong_token, no_token, too_short}
 use Rattle.ctr_model.specs.Language.{SpellsStatement, SpellsLine}
@@ -20,7 +20,7 @@ pub record Facts : Type 0 where
   pub no_bad : (line : List ℕ) (ts us : List (List ℕ)) (i : ℕ) → IsBadAt line ts i → Lexes line us → ⊥
   pub lexed : (line : List ℕ) (ts us : List (List ℕ)) (t : List ℕ) (i : ℕ) → IsTokenAt line ts t i → Lexes line us → (more : List (List ℕ)) × (us ≡ ts ++ t ∷ more)
   pub before_bad : (line : List ℕ) (ts us : List (List ℕ)) (t : List ℕ) (i j : ℕ) → IsTokenAt line ts t i → IsBadAt line us j → (more : List (List ℕ)) × (us ≡ ts ++ t ∷ more)
-  pub ordered : (line : List ℕ) (ts us : List (List ℕ)) (t u : List ℕ) (i j : ℕ) → IsTokenAt line ts t i → IsTokenAt line us u j → StandInOrder ts t i us u j
+  pub ordered : (line : List ℕ) (ts us : List (List ℕ)) (t u : List ℕ) (i j : ℕ) → IsTokenAt line ts t i → IsTokenAt line us u j → TokensStandInOrder ts t i us u j
   pub taken : (line : List ℕ) → IsTakenApart line
 
 -- what begins with some tokens begins with fewer of them
@@ -37,7 +37,7 @@ never_both f Spells line x a (us, lexes, s) (wrong_token ts t i is b n e) = n (b
 never_both f Spells line x a (us, lexes, s) (no_token ts i bad b e) = f.no_bad line ts us i bad lexes
 never_both f Spells line x a (us, lexes, s) (too_short ts l b n e) = n x (subst (λ z. Spells z x) (f.one_lexing line us ts lexes l) s)
 
-two_tokens : {X : Type 0} (Spells : List (List ℕ) → X → Type 0) (ts us : List (List ℕ)) (t u : List ℕ) (i j : ℕ) → StandInOrder ts t i us u j → SomeBegins Spells ts → SomeBegins Spells us
+two_tokens : {X : Type 0} (Spells : List (List ℕ) → X → Type 0) (ts us : List (List ℕ)) (t u : List ℕ) (i j : ℕ) → TokensStandInOrder ts t i us u j → SomeBegins Spells ts → SomeBegins Spells us
     → (SomeBegins Spells (ts ++ t ∷ []) → ⊥) → (SomeBegins Spells (us ++ u ∷ []) → ⊥) → i ≡ j
 two_tokens Spells ts us t u i j (inl e) begins_ts begins_us no_t no_u = e
 two_tokens Spells ts us t u i j (inr (inl m)) begins_ts begins_us no_t no_u = absurd (no_t (begins_less Spells ts us t m begins_us))

@@ -12,7 +12,7 @@ use Rattle.ctr_parse.specs.declared.stop.Stop.{Stop}
 use Rattle.ctr_parse.specs.declared.stop.Stop.TheVariants as stop
 use Rattle.ctr_parse.specs.Trees.{Tree, Outcome, read, wrong, missing, outcome, Follows, alone, whole_line}
 use Rattle.ctr_parse.specs.Answers.{IsParsed, end_of, refusal_at}
-use Rattle.ctr_parse.specs.Refusals.{IsNear}
+use Rattle.ctr_parse.specs.Refusals.{IsStopNear}
 use Rattle.ctr_parse.proofs.Trees.{runs, Living, read_is, missing_is, wrong_is}
 use Rattle.ctr_parse.proofs.ReadStatements.{alone_was, line_was}
 use Rattle.ctr_parse.proofs.Again.{alone_goes, line_goes}
@@ -107,7 +107,7 @@ stopped tree Spells d line ts bad at found go stop.Missing e = missing_goes tree
 
 -- where it stops is inside the line
 pub near : {X Y : Type 0} (tree : Tree Line) (Spells : List (List ℕ) → X → Type 0) → Decides tree Spells → (line : List ℕ) (ts : List Token) → AreAt line ts → length line < 2 ^ 63
-    → (go : Y → Outcome Line) (s : Stop) → Follows go (Err s) (outcome tree ts) → IsNear s
+    → (go : Y → Outcome Line) (s : Stop) → Follows go (Err s) (outcome tree ts) → IsStopNear s
 near tree Spells d line ts at short go stop.OutOfMemory e = tt
 near tree Spells d line ts at short go (stop.Wrong i) e =
     let w = wrong_is tree ts i d.lives e in

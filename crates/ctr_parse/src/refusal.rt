@@ -1,7 +1,7 @@
 // Why there is no statement.
 ghost use Rattle.std.specs.Prelude.{◌≡◌, ◌+◌, ◌<◌, ◌^◌, IfSome};
 ghost use Rattle.ctr_parse.specs.Answers.{refusal_at};
-ghost use Rattle.ctr_parse.specs.Refusals.{IsNear};
+ghost use Rattle.ctr_parse.specs.Refusals.{IsStopNear};
 
 use crate::stop::Stop;
 
@@ -18,7 +18,7 @@ pub enum ParseRefusal {
 /// The refusal where reading stopped so, in bytes of this length with this first byte at which no
 /// token begins.
 pub fn refusal_of(stop: Stop, bad: Option<usize>, len: usize) -> ParseRefusal
-    requires stopped { IsNear stop }
+    requires stopped { IsStopNear stop }
     requires inside { IfSome bad (λ i. i < 2 ^ 63) }
     requires short { len < 2 ^ 63 }
     ensures { result ≡ refusal_at stop bad len }

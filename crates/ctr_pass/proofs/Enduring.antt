@@ -23,7 +23,7 @@ use Rattle.ctr_model.specs.State.{transaction_of, with_transaction, begun, view}
 use Rattle.ctr_model.specs.Tape.{statement_of, passed, final}
 use Rattle.ctr_model.proofs.Sessions.{find-put-other, find-put-same}
 use Rattle.ctr_versions.proofs.Keys.{known, some_is}
-use Rattle.ctr_pass.specs.Passing.{HasLocksOf, is_end, some_end}
+use Rattle.ctr_pass.specs.Passing.{HasLocksOf, ends_transaction, some_end}
 
 -- neither of two holds
 pub neither : (a b : Bool) → (a || b) ≡ false → (a ≡ false) × (b ≡ false)
@@ -98,7 +98,7 @@ its_own p s me u is has t is_t = subst (λ (x : Transaction). HasLocksOf x u) (s
 same_sessions : (p q r : State) → q.sessions ≡ p.sessions → Endures q r → Endures p r
 same_sessions p q r same endures = record { keeps = λ s t is. endures.keeps s t (ap (find nat_cmp s) same ∙ is) }
 
-inside_endures : (p : State) (s : ℕ) (me : Transaction) (a : Act) (statement : Option Statement) (r : Reply) → transaction_of p s ≡ Some me → is_end r ≡ false → Endures p (next_inside p s me a statement r)
+inside_endures : (p : State) (s : ℕ) (me : Transaction) (a : Act) (statement : Option Statement) (r : Reply) → transaction_of p s ≡ Some me → ends_transaction r ≡ false → Endures p (next_inside p s me a statement r)
 inside_endures p s me a statement (reply.Began n) is still = endures_itself p
 inside_endures p s me a statement reply.Granted is still = endures_with p s (with_granted a statement me) (its_own p s me (with_granted a statement me) is (granted_more a statement me))
 inside_endures p s me a statement (reply.Rows rows) is still = endures_with p s (with_read statement me) (its_own p s me (with_read statement me) is (read_more statement me))
@@ -137,7 +137,7 @@ outside_endures p s a statement reply.RolledBack none = endures_itself p
 outside_endures p s a statement reply.Released none = released_endures p a
 outside_endures p s a statement (reply.Refused why) none = endures_itself p
 
-next_endures : (p : State) (s : ℕ) (o : Option Transaction) (a : Act) (statement : Option Statement) (r : Reply) → transaction_of p s ≡ o → is_end r ≡ false → Endures p (next_from p s o a statement r)
+next_endures : (p : State) (s : ℕ) (o : Option Transaction) (a : Act) (statement : Option Statement) (r : Reply) → transaction_of p s ≡ o → ends_transaction r ≡ false → Endures p (next_from p s o a statement r)
 next_endures p s None a statement r is still = outside_endures p s a statement r is
 next_endures p s (Some me) a statement r is still = inside_endures p s me a statement r is still
 
@@ -146,7 +146,7 @@ pub led_endures : (lines : List Line) (p : Point) (es : List Entry) → some_end
 led_endures lines p [] still = endures_itself p.state
 led_endures lines p (e ∷ es) still =
     let statement = statement_of lines e.session e.statement in
-    let both = neither (is_end e.reply) (some_end es) still in
+    let both = neither (ends_transaction e.reply) (some_end es) still in
     endures_then p.state (passed lines p e).state (final lines p (e ∷ es)).state
     (next_endures p.state e.session (transaction_of p.state e.session) e.act statement e.reply refl both.0)
     (led_endures lines (passed lines p e) es both.1)

@@ -8,7 +8,7 @@ use Rattle.ctr_versions.proofs.Keys.{known}
 use Rattle.ctr_pass.specs.declared.pass.Pass.{Pass}
 use Rattle.ctr_pass.specs.declared.pass.Phase.{Phase}
 use Rattle.ctr_pass.specs.declared.pass.Phase.TheVariants.{Disturbed}
-use Rattle.ctr_pass.specs.Passing.{is_end, some_end, is_calm, noted}
+use Rattle.ctr_pass.specs.Passing.{ends_transaction, some_end, is_calm, noted}
 use Rattle.ctr_pass.proofs.Enduring.{neither}
 
 -- Where nothing happened no record was logged, and no transaction has ended.
@@ -24,7 +24,7 @@ calm_from p next es same none = and_from (p.next == next) (not (some_end (drop p
 pub calm_before : (p : Pass) (next now : ℕ) (es more all : List Entry) → p.seen ≤ length es → now ≡ next → all ≡ es ++ more → is_calm p now all ≡ true → (is_calm p next es ≡ true) × (some_end more ≡ false)
 calm_before p next now es more all seen same grows calm =
     let both = calm_says p now all calm in
-    let ends = ap (λ l. some_end (drop p.seen l)) grows ∙ ap some_end (drop-append-le p.seen es more seen) ∙ list_any-append (λ (e : Entry). is_end e.reply) (drop p.seen es) more in
+    let ends = ap (λ l. some_end (drop p.seen l)) grows ∙ ap some_end (drop-append-le p.seen es more seen) ∙ list_any-append (λ (e : Entry). ends_transaction e.reply) (drop p.seen es) more in
     let parts = neither (some_end (drop p.seen es)) (some_end more) (sym ends ∙ both.1) in
     (calm_from p next es (both.0 ∙ same) parts.0, parts.1)
 

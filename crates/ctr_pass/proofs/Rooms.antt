@@ -7,7 +7,7 @@ use Rattle.ctr_types.specs.declared.statement.Statement.{Statement}
 use Rattle.ctr_walk.specs.store_Store.{View}
 use Rattle.ctr_cleaner.specs.declared.done.CleanTurn.{CleanTurn}
 use Rattle.ctr_cleaner.specs.declared.done.CleanTurn.TheVariants.{Cleaned, Unlinked, Reclaimed, Moved, Over}
-use Rattle.ctr_cleaner.specs.Turning.{IsWithin, LeavesRoomBy}
+use Rattle.ctr_cleaner.specs.Turning.{IsTurnWithin, LeavesRoomBy}
 use Rattle.ctr_meta.specs.Kept.{TablesKept}
 use Rattle.ctr_exec.specs.ctr_control.kept_Turns.{Start}
 use Rattle.ctr_exec.specs.ctr_control.kept_Walk.{Mind}
@@ -15,7 +15,7 @@ use Rattle.ctr_exec.specs.declared.runners.Stage.{Stage}
 use Rattle.ctr_exec.specs.declared.runners.Stage.TheVariants as stage
 use Rattle.ctr_exec.specs.declared.sessions.Sessions.{Sessions}
 use Rattle.ctr_exec.specs.Acting.{MayAct}
-use Rattle.ctr_exec.specs.Order.{IsOrdered}
+use Rattle.ctr_exec.specs.Order.{IsTapeOrdered}
 use Rattle.ctr_exec.specs.Runners.{runner_at}
 use Rattle.ctr_exec.specs.Sessions.{AreSeated, ShowsSessions}
 use Rattle.ctr_exec.specs.txn_Held.{TxnsHeld}
@@ -44,7 +44,7 @@ seated_so h counted item seats = record {
   may = λ s statement one next unasked. may_act (runner_at s h.runners.items).stage s statement h.txns counted item (seats.may s statement one next unasked);
 }
 
-pub ordered_so : (start now : ℕ) (h : Sessions) (item : Bool) → IsOrdered start now h → IsOrdered start now (keeping_room item h)
+pub ordered_so : (start now : ℕ) (h : Sessions) (item : Bool) → IsTapeOrdered start now h → IsTapeOrdered start now (keeping_room item h)
 ordered_so start now h item order = record { order = order.order; later = order.later; each = order.each }
 
 pub shown_so : {D : Type 0} (g : Ghosts D) (c : Start) (opened : D) (v : View D) (h : Sessions) (w : Mind) (item : Bool) → ShowsSessions g c opened v h w → ShowsSessions g c opened v (keeping_room item h) w
@@ -79,7 +79,7 @@ next_behind Reclaimed k l left = left.0.1
 next_behind (Moved y) k l left = left.1
 next_behind Over k l left = left.1
 
-pub room_behind : (did : CleanTurn) (txns : TxnsHeld) (unlink : Bool) (counted : ℕ) (k l : TablesKept) → LeavesRoomBy did k l → IsWithin unlink counted did → unlink ≡ txns.cleaner → HasItemRoom txns k
+pub room_behind : (did : CleanTurn) (txns : TxnsHeld) (unlink : Bool) (counted : ℕ) (k l : TablesKept) → LeavesRoomBy did k l → IsTurnWithin unlink counted did → unlink ≡ txns.cleaner → HasItemRoom txns k
     → HasItemRoom (with_cleaner (keeps_room unlink did) txns) l
 room_behind Cleaned txns unlink counted k l left within is room = let now = kept_with txns unlink txns.cleaner is in omega (arith, now, left.0.1, room)
 room_behind Unlinked txns unlink counted k l left within is room =

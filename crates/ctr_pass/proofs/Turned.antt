@@ -18,7 +18,7 @@ use Rattle.ctr_cleaner.specs.clean_Lists.{HasNoFree}
 use Rattle.ctr_cleaner.specs.declared.done.CleanTurn.{CleanTurn}
 use Rattle.ctr_cleaner.specs.declared.done.CleanTurn.TheVariants as did
 use Rattle.ctr_cleaner.specs.Finding.{IsFreeRow, HasNothingAt}
-use Rattle.ctr_cleaner.specs.Turning.{Heeded, CleansFreely, PassesBy, TurnsAt, next_cleaned}
+use Rattle.ctr_cleaner.specs.Turning.{Heeded, CleansFreely, PassesPosition, TurnsAt, next_cleaned}
 use Rattle.ctr_pass.specs.declared.going.Went.{Went}
 use Rattle.ctr_pass.specs.declared.pass.Pass.{Pass}
 use Rattle.ctr_pass.specs.declared.pass.Phase.{Phase}
@@ -67,7 +67,7 @@ module _
 
     -- ---- there was nothing to do
 
-    module _ (y : Option Position) (passes : PassesBy h w.from y v.state u.state) (unlogged : u.next ≡ v.next) where
+    module _ (y : Option Position) (passes : PassesPosition h w.from y v.state u.state) (unlogged : u.next ≡ v.next) where
       rested : HasNoneOpen u → HasNoneOpen v
       rested rest = record {
         nobody = λ s. ap (λ (q : ModelState). transaction_of q s) (sym turns.led) ∙ rest.nobody s;
@@ -104,7 +104,7 @@ module _
           (λ no. subst (λ b. IsInPhase (cond b Idle Calm) u.undos start u.state) (sym no) (begins u.state))
       phase_back Idle to is rest = absurd (busy is)
 
-    moved : (z : Position) → PassesBy h w.from (Some z) v.state u.state → u.next ≡ v.next → KeepsPass (pass_on h.may.unlink (Some z) pass) u
+    moved : (z : Position) → PassesPosition h w.from (Some z) v.state u.state → u.next ≡ v.next → KeepsPass (pass_on h.may.unlink (Some z) pass) u
     moved z passes unlogged = record {
       before = omega (arith, unlogged);
       seen = sees;
@@ -114,7 +114,7 @@ module _
           (λ no. subst (λ b. IsInPhase (cond b pass.phase Disturbed) u.undos z u.state) (sym no) tt);
     }
 
-    over : PassesBy h w.from None v.state u.state → u.next ≡ v.next → KeepsPass (pass_on h.may.unlink None pass) u
+    over : PassesPosition h w.from None v.state u.state → u.next ≡ v.next → KeepsPass (pass_on h.may.unlink None pass) u
     over passes unlogged = record {
       before = omega (arith, unlogged);
       seen = sees;

@@ -15,28 +15,29 @@ use Rattle.ctr_pass.specs.declared.pass.Phase.{Phase}
 use Rattle.ctr_pass.specs.declared.pass.Phase.TheVariants.{Disturbed, Calm, Idle}
 
 -- a reply ends its session's transaction
-abbrev pub is_end : Reply → Bool
-is_end (reply.Began n) = false
-is_end reply.Granted = false
-is_end (reply.Rows rows) = false
-is_end reply.Done = false
-is_end (reply.Asked k) = false
-is_end reply.ReadOnly = true
-is_end (reply.Answered k) = true
-is_end reply.RolledBack = true
-is_end reply.Released = false
-is_end (reply.Refused why) = false
+abbrev pub ends_transaction : Reply → Bool
+ends_transaction (reply.Began n) = false
+ends_transaction reply.Granted = false
+ends_transaction (reply.Rows rows) = false
+ends_transaction reply.Done = false
+ends_transaction (reply.Asked k) = false
+ends_transaction reply.ReadOnly = true
+ends_transaction (reply.Answered k) = true
+ends_transaction reply.RolledBack = true
+ends_transaction reply.Released = false
+ends_transaction (reply.Refused why) = false
 
 -- a transaction ends by one of these entries
 abbrev pub some_end : List Entry → Bool
-some_end es = list_any (λ (e : Entry). is_end e.reply) es
+some_end es = list_any (λ (e : Entry). ends_transaction e.reply) es
 
 -- the other transaction has each lock of the one
 abbrev pub HasLocksOf : Transaction → Transaction → Type 0
 HasLocksOf t u = (name : List ℕ) (key : ℤ) → has_lock name key t ≡ true
     → has_lock name key u ≡ true
 
--- Nothing happened since the cleaner looked last: no record was logged, and no transaction has ended.
+-- Nothing happened since the cleaner looked last: no record was logged, and no transaction has
+-- ended.
 abbrev pub is_calm : Pass → ℕ → List Entry → Bool
 is_calm p next es = (p.next == next) && not (some_end (drop p.seen es))
 
@@ -50,15 +51,15 @@ noted p next es = record p {
 
 -- ---- behind a turn
 
--- how a pass is at its end, where a page might leave its chain or not: one in which nothing happened is
--- idle, and behind another one a pass begins
+-- how a pass is at its end, where a page might leave its chain or not: one in which nothing
+-- happened is idle, and behind another one a pass begins
 abbrev pub phase_over : Bool → Phase → Phase
 phase_over may Disturbed = Calm
 phase_over may Calm = if may then Idle else Calm
 phase_over may Idle = Idle
 
--- A pass that found nothing at its position goes on to the one behind it, if any, else to its start.
--- Where no page might leave its chain nothing is known of what was passed.
+-- A pass that found nothing at its position goes on to the one behind it, if any, else to its
+-- start. Where no page might leave its chain nothing is known of what was passed.
 abbrev pub pass_on : Bool → Option Position → Pass → Pass
 pass_on may (Some y) p = record p { at = y; phase = if may then p.phase else Disturbed }
 pass_on may None p = record p { at = start; phase = phase_over may p.phase }

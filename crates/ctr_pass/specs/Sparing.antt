@@ -1,4 +1,5 @@
--- Sessions beside the cleaner: whether anybody is in a transaction, and the room for an item of its own.
+-- Sessions beside the cleaner: whether anybody is in a transaction, and the room for an item of its
+-- own.
 use Rattle.std.specs.Prelude.{◌≡◌, ℕ, Bool, None}
 use Rattle.ctr_model.specs.declared.state.State.{State}
 use Rattle.ctr_model.specs.State.{transaction_of}

@@ -9,7 +9,7 @@ ghost use Rattle.ctr_cleaner.specs.page_turns_Turns.{Turns};
 ghost use Rattle.ctr_cleaner.specs.cursor_Standing.{IsPosition, IsCountedPosition};
 ghost use Rattle.ctr_cleaner.specs.Turning.{heeding, HasRoomFor, LeavesCounts};
 ghost use Rattle.ctr_pass.specs.Beside.{entry_first};
-ghost use Rattle.ctr_pass.specs.Going.{IsFrom, WentAs};
+ghost use Rattle.ctr_pass.specs.Going.{IsFromPosition, WentAs};
 
 use ctr_cleaner::{CleanTurn, MayEmpty, Position, a_turn_goes_on, is_there, turn};
 use ctr_disk::{Disk, StoreFault};
@@ -75,7 +75,7 @@ pub fn clean_from<D: Disk, O: Origin>(
     // It logs one record, or reads pages.
     ensures turns { Turns O.first D.Disk store.old store.new result }
     ensures counts { IfOk result (λ w. LeavesCounts may store.old store.new w.did) }
-    ensures from { IfOk result (IsFrom stayed store.new.now.counted at) }
+    ensures from { IfOk result (IsFromPosition stayed store.new.now.counted at) }
     // It is taken at a position of the state, and is an action of the cleaner's there, or there is none.
     ensures cleans { WhereSound O.first D.Disk (IsDatabaseState store.old.now → (stayed ≡ true → IsPosition at (site_of store.old.now))
         → IfOk result (WentAs (heeding low locks.now spared may) store.old.now store.new.now)) }

@@ -1,6 +1,6 @@
 // Where a pass of the cleaner is.
 ghost use Rattle.std.specs.Prelude.{◌≡◌, true, false, None, Some, drop};
-ghost use Rattle.ctr_pass.specs.Passing.{is_end as ends_one, keeps_room as room_kept, noted as noted_by, pass_behind, pass_on, some_end};
+ghost use Rattle.ctr_pass.specs.Passing.{ends_transaction as ends_one, keeps_room as room_kept, noted as noted_by, pass_behind, pass_on, some_end};
 ghost use Rattle.ctr_pass.specs.declared.pass.Phase.TheVariants.{Calm, Idle};
 ghost use Rattle.ctr_cleaner.specs.cursor_Pass.{start};
 

@@ -1,6 +1,6 @@
 // The cleaner's turn in a World of sessions. A call does nothing: what it ensures is the law.
 ghost use Rattle.std.specs.Prelude.{◌≡◌, ℕ, ℤ, Bool, true, false, [], length};
-ghost use Rattle.ctr_exec.specs.Order.{IsOrdered};
+ghost use Rattle.ctr_exec.specs.Order.{IsTapeOrdered};
 ghost use Rattle.ctr_exec.specs.Sessions.{AreSeated, ShowsSessions};
 ghost use Rattle.ctr_exec.specs.ctr_control.kept_Turns.{Start, state_now};
 ghost use Rattle.ctr_exec.specs.ctr_control.kept_Walk.{Mind};
@@ -59,7 +59,7 @@ pub fn room_for_the_cleaner_leaves_the_sessions<D: Disk>()
     ensures shows { (c : Start) (opened : D) (v : View D) (h : SessionsAt) (w : Mind) (item : Bool) → ShowsSessions D.Disk c opened v h w
         → ShowsSessions D.Disk c opened v (keeping_room item h) w }
     ensures seats { (h : SessionsAt) (counted : ℕ) (item : Bool) → AreSeated h counted → AreSeated (keeping_room item h) counted }
-    ensures order { (start now : ℕ) (h : SessionsAt) (item : Bool) → IsOrdered start now h → IsOrdered start now (keeping_room item h) }
+    ensures order { (start now : ℕ) (h : SessionsAt) (item : Bool) → IsTapeOrdered start now h → IsTapeOrdered start now (keeping_room item h) }
     ensures stands { (txns : TxnsHeld) (a b : View D) (may : MayEmpty) (did : CleanTurn) → StandOver txns a → LeavesCounts may a b did → may.unlink ≡ txns.cleaner
         → StandOver (with_cleaner (keeps_room may.unlink did) txns) b }
     ensures asks { (txns : TxnsHeld) (v : View D) → StandOver txns v → HasRoomForOne 0 0 v → HasRoomFor txns.cleaner v }

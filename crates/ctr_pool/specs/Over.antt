@@ -29,13 +29,13 @@ pub record IsOver {B : Type 0} (g : Ghosts B) (fs : List Frame) (b : B) : Type 0
   pub held : (p : ℕ) (f : Frame) → frame_of p fs ≡ Some f → IsHeld g b p (page_of f) f.since
 
 -- each page is as it was: what the backing holds, with the changes since
-abbrev pub ShowsSame : {B : Type 0} → Ghosts B → List Frame → B → List Frame → B → Type 0
-ShowsSame g old a new b = (q : ℕ) → page_shown new q (g.held b q) ≡ page_shown old q (g.held a q)
+abbrev pub ShowsSamePages : {B : Type 0} → Ghosts B → List Frame → B → List Frame → B → Type 0
+ShowsSamePages g old a new b = (q : ℕ) → page_shown new q (g.held b q) ≡ page_shown old q (g.held a q)
 
 -- over the backing still, where it was, with each page as it was
 pub record StaysOver {B : Type 0} (g : Ghosts B) (old : List Frame) (a : B) (new : List Frame)
     (b : B) : Type 0 where
-  pub shows : ShowsSame g old a new b
+  pub shows : ShowsSamePages g old a new b
   pub over : IsOver g new b
 
 -- What a call does below the pool: it only loads and saves.

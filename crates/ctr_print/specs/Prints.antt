@@ -22,8 +22,8 @@ pub record IsPart (old text new waiting : List ℕ) (fine : Bool) : Type 0 where
   pub taken : new ≡ old ++ sent
   pub waits : fine ≡ true → rest ≡ waiting
 
--- The printer was begun on this sink, and this text is what it has printed since. Where it is no longer
--- well a put has failed, and was counted.
+-- The printer was begun on this sink, and this text is what it has printed since. Where it is no
+-- longer well a put has failed, and was counted.
 pub record HasPrinted {K : Type 0} (g : Ghosts K) (start : K) (text : List ℕ) (p : Printer K) : Type 0 where
   pub told : IsTrue g.tells → IsPart (g.taken start) text (g.taken p.sink.now) p.waiting.items p.fine
   pub calm : p.fine ≡ true → g.faults_of p.sink.now ≡ g.faults_of start
@@ -34,8 +34,8 @@ pub record PrintsMore {K : Type 0} (g : Ghosts K) (text : List ℕ) (old new : P
   pub same_reference : new.sink.ghost_name ≡ old.sink.ghost_name
   pub adds : (start : K) (before : List ℕ) → HasPrinted g start before old → HasPrinted g start (before ++ text) new
 
--- What a sink has taken before and after a text was printed on it: all of it where that is done, else a
--- prefix, and a put has failed and was counted.
+-- What a sink has taken before and after a text was printed on it: all of it where that is done,
+-- else a prefix, and a put has failed and was counted.
 pub record PutsOn {K : Type 0} (g : Ghosts K) (old : K) (text : List ℕ) (new : K) (done : Bool)
     : Type 0 where
   pub whole : IsTrue g.tells → done ≡ true → g.taken new ≡ g.taken old ++ text

@@ -30,7 +30,7 @@ use Rattle.ctr_reading.specs.declared.pages.PageSlots.{PageSlots}
 abbrev pub key_of_slot : RowSlot → Option ℤ
 key_of_slot s = if s.used == 1 then Some s.key else None
 
--- the same of a slot of the area
+-- The key of a slot of the area; none where it isn't used.
 abbrev pub key_there : Slot → Option ℤ
 key_there slot = if slot.used then Some slot.key else None
 
@@ -66,7 +66,7 @@ NextSaid chain counted page (Ok n) =
     (header_check chain counted page ≡ Ok tt) × (n ≡ (header_in page).next)
 NextSaid chain counted page (Err bad) = header_check chain counted page ≡ Err bad
 
--- These are the slots of a page: its table, and how many there are.
+-- Slots are those of a page: its table, and how many there are.
 pub record ArePageSlots (s : State) (slots : PageSlots) : Type 0 where
   pub table : TableSaid 1 s.counted (pages_in s) slots.page (Ok slots.table)
   pub count : slots.count ≡ (area_in s).room slots.page

@@ -35,13 +35,13 @@ IsDiskOrMemory refusal.OutOfMemory = Unit {0}
 -- ---- rows
 
 -- what who reads sees of a transaction
-abbrev pub sees : Tables → Sight → ℕ → Bool
-sees tables sight = xid_is_seen tables sight.snapshot.now sight.me
+abbrev pub sight_sees : Tables → Sight → ℕ → Bool
+sight_sees tables sight = xid_is_seen tables sight.snapshot.now sight.me
 
 -- The row of a key is what the used slot of the key shows to a test; or no used slot has it, and
 -- there is none.
-abbrev pub IsSeen : (ℕ → Bool) → Area → ℕ → ℤ → Option Row → Type 0
-IsSeen test area e key row =
+abbrev pub IsRowSeen : (ℕ → Bool) → Area → ℕ → ℤ → Option Row → Type 0
+IsRowSeen test area e key row =
     ((at : Place) × IsUsedSlot area e at × ((area.slot at).key ≡ key)
     × (row ≡ visible_row test area at))
     ⊎ (IsNoSlot area e key × (row ≡ None))
@@ -49,7 +49,7 @@ IsSeen test area e key row =
 -- That row is given. Memory runs out only where there is one.
 abbrev pub GivesSeen : (ℕ → Bool) → Area → ℕ → ℤ → Result (Option Row) OutOfMemory → Type 0
 GivesSeen test area e key given =
-    (row : Option Row) × IsSeen test area e key row × GivesRow row given
+    (row : Option Row) × IsRowSeen test area e key row × GivesRow row given
 
 -- Rows are those that the slots of a table show to a test: all of them in the order of their keys,
 -- or the one of a key.
@@ -57,9 +57,9 @@ abbrev pub AreShown : (ℕ → Bool) → Area → ℕ → Option ℤ → List Ro
 AreShown test area e None rows =
     (entries : List (ℤ × Row)) × AreScanned test area e entries × (rows ≡ map (λ x. x.1) entries)
 AreShown test area e (Some key) rows =
-    (row : Option Row) × IsSeen test area e key row × (rows ≡ option_to_list row)
+    (row : Option Row) × IsRowSeen test area e key row × (rows ≡ option_to_list row)
 
--- These rows are given. Memory runs out only where there are any.
+-- A call gives these rows. Memory runs out only where there are any.
 abbrev pub GivesRows : List Row → Result Rows OutOfMemory → Type 0
 GivesRows rows (Ok given) = given.rows ≡ rows
 GivesRows rows (Err e) = rows ≢ []

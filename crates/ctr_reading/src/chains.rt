@@ -6,7 +6,7 @@ ghost use Rattle.ctr_area.specs.Chains.{places_on, places_from, slot_places};
 ghost use Rattle.ctr_walk.specs.record_effects_States.{area_in};
 ghost use Rattle.ctr_walk.specs.record_effects_Standing.{IsDatabaseState};
 ghost use Rattle.ctr_walk.specs.Damage.{ReadsPages};
-ghost use Rattle.ctr_reading.specs.Reading.{as_told, sees, IsDiskOrMemory};
+ghost use Rattle.ctr_reading.specs.Reading.{as_told, sight_sees, IsDiskOrMemory};
 ghost use Rattle.ctr_reading.specs.Gathering.{gathered, bucket_places, Gathers, IsBucketPage, IsBucket};
 
 use crate::gathered::Gathered;
@@ -37,7 +37,7 @@ fn gather_page<D: Disk, O: Origin>(
     requires going { store.old.stopped ≡ false }
     requires counted { p < store.old.now.counted }
     ensures gathers { WhereSound O.first D.Disk (IfOk (as_told result)
-        (Gathers (gathered (sees store.old.now.tables sight.now) (area_in store.old.now) (places_on p 0 ((area_in store.old.now).room p)) rows.old) rows.new)) }
+        (Gathers (gathered (sight_sees store.old.now.tables sight.now) (area_in store.old.now) (places_on p 0 ((area_in store.old.now).room p)) rows.old) rows.new)) }
     ensures goes { WhereSound O.first D.Disk (IfOk result (λ n. n ≡ ((area_in store.old.now).header p).next)) }
     ensures refused { WhereSound O.first D.Disk (IsBucketPage chain p store.old.now → IfErr result IsDiskOrMemory) }
     ensures inside { IfOk result (λ n. n < store.old.now.counted) }
@@ -90,7 +90,7 @@ fn gather_from<D: Disk, O: Origin>(
     requires some { first ≢ 0 }
     requires counted { first < store.old.now.counted }
     ensures gathers { WhereSound O.first D.Disk (IfOk (as_told result)
-        (Gathers (gathered (sees store.old.now.tables sight.now) (area_in store.old.now) (places_from (area_in store.old.now) first) rows.old) rows.new)) }
+        (Gathers (gathered (sight_sees store.old.now.tables sight.now) (area_in store.old.now) (places_from (area_in store.old.now) first) rows.old) rows.new)) }
     ensures refused { WhereSound O.first D.Disk (IsBucket chain first store.old.now → IfErr result IsDiskOrMemory) }
     ensures leaves { ReadsPages O.first D.Disk store.old store.new (as_told result) }
 {
@@ -126,7 +126,7 @@ fn gather_bucket<D: Disk, O: Origin>(
     requires going { store.old.stopped ≡ false }
     requires there { (entry < 32) × (bucket < 8) }
     ensures gathers { WhereSound O.first D.Disk (IfOk (as_told result)
-        (Gathers (gathered (sees store.old.now.tables sight.now) (area_in store.old.now) (bucket_places (area_in store.old.now) entry bucket) rows.old) rows.new)) }
+        (Gathers (gathered (sight_sees store.old.now.tables sight.now) (area_in store.old.now) (bucket_places (area_in store.old.now) entry bucket) rows.old) rows.new)) }
     ensures refused { WhereSound O.first D.Disk (IsDatabaseState store.old.now → IfErr result IsDiskOrMemory) }
     ensures leaves { ReadsPages O.first D.Disk store.old store.new (as_told result) }
 {
@@ -153,7 +153,7 @@ pub(crate) fn scan<D: Disk, O: Origin>(
     requires going { store.old.stopped ≡ false }
     requires there { entry < 32 }
     ensures gathers { WhereSound O.first D.Disk (IfOk (as_told result)
-        (Gathers (gathered (sees store.old.now.tables sight.now) (area_in store.old.now) (slot_places (area_in store.old.now) entry) rows.old) rows.new)) }
+        (Gathers (gathered (sight_sees store.old.now.tables sight.now) (area_in store.old.now) (slot_places (area_in store.old.now) entry) rows.old) rows.new)) }
     ensures refused { WhereSound O.first D.Disk (IsDatabaseState store.old.now → IfErr result IsDiskOrMemory) }
     ensures leaves { ReadsPages O.first D.Disk store.old store.new (as_told result) }
 {

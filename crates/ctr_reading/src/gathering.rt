@@ -9,7 +9,7 @@ ghost use Rattle.ctr_walk.specs.record_effects_States.{pages_in, area_in};
 ghost use Rattle.ctr_walk.specs.record_effects_Standing.{IsDatabaseState};
 ghost use Rattle.ctr_walk.specs.Damage.{ReadsPages};
 ghost use Rattle.ctr_views.specs.pvs_Table.{TableSaid, TableFits};
-ghost use Rattle.ctr_reading.specs.Reading.{as_told, sees, IsDiskOrMemory};
+ghost use Rattle.ctr_reading.specs.Reading.{as_told, sight_sees, IsDiskOrMemory};
 ghost use Rattle.ctr_reading.specs.Gathering.{gathered_at, gathered, ArePageSlots, Gathers, IsBucketPage};
 
 use crate::gathered::Gathered;
@@ -37,7 +37,7 @@ fn gather<D: Disk, O: Origin>(
     requires counted { place.page < store.old.now.counted }
     requires few { table.now.count ≤ 7 }
     ensures gathers { WhereSound O.first D.Disk (TableSaid 1 store.old.now.counted (pages_in store.old.now) place.page (Ok table.now)
-        → IfOk (as_told result) (Gathers (gathered_at (sees store.old.now.tables sight.now) (area_in store.old.now) place rows.old) rows.new)) }
+        → IfOk (as_told result) (Gathers (gathered_at (sight_sees store.old.now.tables sight.now) (area_in store.old.now) place rows.old) rows.new)) }
     ensures refused { (e : ℕ) → WhereSound O.first D.Disk (IsDatabaseState store.old.now → IsAmong place (slot_places (area_in store.old.now) e)
         → TableSaid 1 store.old.now.counted (pages_in store.old.now) place.page (Ok table.now) → IfErr result IsDiskOrMemory) }
     ensures leaves { ReadsPages O.first D.Disk store.old store.new (as_told result) }
@@ -75,7 +75,7 @@ pub(crate) fn gather_slots<D: Disk, O: Origin>(
     requires counted { slots.now.page < store.old.now.counted }
     requires fits { TableFits slots.now.table }
     ensures gathers { WhereSound O.first D.Disk (ArePageSlots store.old.now slots.now
-        → IfOk (as_told result) (Gathers (gathered (sees store.old.now.tables sight.now) (area_in store.old.now) (places_on slots.now.page 0 slots.now.count) rows.old) rows.new)) }
+        → IfOk (as_told result) (Gathers (gathered (sight_sees store.old.now.tables sight.now) (area_in store.old.now) (places_on slots.now.page 0 slots.now.count) rows.old) rows.new)) }
     ensures refused { (chain : ChainOf) → WhereSound O.first D.Disk (ArePageSlots store.old.now slots.now → IsBucketPage chain slots.now.page store.old.now → IfErr result IsDiskOrMemory) }
     // It goes on from pages that were read.
     ensures leaves { (a : View D) → LeavesPage {T = ⊤} O.first D.Disk a store.old (Ok tt) → ReadsPages O.first D.Disk a store.new (as_told result) }

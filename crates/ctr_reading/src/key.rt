@@ -4,7 +4,7 @@ ghost use Rattle.ctr_base.specs.Base.{WhereSound};
 ghost use Rattle.ctr_walk.specs.record_effects_States.{area_in};
 ghost use Rattle.ctr_walk.specs.record_effects_Standing.{HasSoundArea, IsDatabaseState};
 ghost use Rattle.ctr_walk.specs.Damage.{ReadsPages};
-ghost use Rattle.ctr_reading.specs.Reading.{as_told, sees, GivesSeen, IsDiskOrMemory};
+ghost use Rattle.ctr_reading.specs.Reading.{as_told, sight_sees, GivesSeen, IsDiskOrMemory};
 
 use crate::sight::Sight;
 use ctr_base::Origin;
@@ -28,7 +28,7 @@ pub fn row_of_key<D: Disk, O: Origin>(
     requires there { entry < 32 }
     // It is what the used slot of the key shows, none where no slot has it. Memory runs out only where there is a row.
     ensures shows { WhereSound O.first D.Disk (HasSoundArea store.old.now
-        → IfOk (as_told result) (GivesSeen (sees store.old.now.tables sight.now) (area_in store.old.now) entry key)) }
+        → IfOk (as_told result) (GivesSeen (sight_sees store.old.now.tables sight.now) (area_in store.old.now) entry key)) }
     // It is refused for no other cause than that the disk failed, or for want of memory.
     ensures refused { WhereSound O.first D.Disk (IsDatabaseState store.old.now → IfErr result IsDiskOrMemory) }
     // It logs nothing; and a fault is told where the disk counts one more, by `a_fault_of_reading_is_counted`.

@@ -12,7 +12,7 @@ ghost use Rattle.ctr_views.specs.names_Search.{IsEntryFound};
 ghost use Rattle.ctr_views.specs.actions_Sites.{Site};
 ghost use Rattle.ctr_views.specs.paged_Shown.{Scene, IsShown};
 ghost use Rattle.ctr_views.specs.Viewing.{Viewer, sees_by};
-ghost use Rattle.ctr_reading.specs.Reading.{AreShown, IsSeen};
+ghost use Rattle.ctr_reading.specs.Reading.{AreShown, IsRowSeen};
 
 use ctr_views::{a_scan_gives_the_table, the_view_has_what_slots_show};
 
@@ -23,7 +23,7 @@ pub fn rows_are_those_of_the_view()
         → IsEntryFound (sees_by site v) name site.area e → AreShown (sees_by site v) site.area e (option_map (λ k. k.key) at) rows
         → rows ≡ rows_found at (table_at (view scene.state v.t) name) }
     ensures row { (low : ℕ) (site : Site) (scene : Scene) (v : Viewer scene) (name : List ℕ) (e : ℕ) (key : ℤ) (row : Option Row) → IsShown low site scene → IsFirm scene.state.asked v.t
-        → IsEntryFound (sees_by site v) name site.area e → IsSeen (sees_by site v) site.area e key row
+        → IsEntryFound (sees_by site v) name site.area e → IsRowSeen (sees_by site v) site.area e key row
         → row ≡ row_of (table_at (view scene.state v.t) name) key }
 {
     a_scan_gives_the_table();

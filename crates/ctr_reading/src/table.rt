@@ -4,7 +4,7 @@ ghost use Rattle.ctr_base.specs.Base.{WhereSound};
 ghost use Rattle.ctr_walk.specs.record_effects_States.{area_in};
 ghost use Rattle.ctr_walk.specs.record_effects_Standing.{HasSoundArea, IsDatabaseState};
 ghost use Rattle.ctr_walk.specs.Damage.{ReadsPages};
-ghost use Rattle.ctr_reading.specs.Reading.{as_told, sees, GivesShown, IsDiskOrMemory};
+ghost use Rattle.ctr_reading.specs.Reading.{as_told, sight_sees, GivesShown, IsDiskOrMemory};
 
 use crate::chains::scan;
 use crate::gathered::Gathered;
@@ -40,7 +40,7 @@ pub fn rows_of_table<D: Disk, O: Origin>(
     requires there { entry < 32 }
     // They are what the used slots of the table show. Memory runs out only where there is a row.
     ensures shows { WhereSound O.first D.Disk (HasSoundArea store.old.now
-        → IfOk (as_told result) (GivesShown (sees store.old.now.tables sight.now) (area_in store.old.now) entry)) }
+        → IfOk (as_told result) (GivesShown (sight_sees store.old.now.tables sight.now) (area_in store.old.now) entry)) }
     // They are refused for no other cause than that the disk failed, or for want of memory.
     ensures refused { WhereSound O.first D.Disk (IsDatabaseState store.old.now → IfErr result IsDiskOrMemory) }
     // They log nothing; and a fault is told where the disk counts one more, by `a_fault_of_reading_is_counted`.

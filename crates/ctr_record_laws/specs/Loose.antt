@@ -1,5 +1,5 @@
--- Version entries that no chain has: what a Keep leaves for a Row, and what a Revert or a Trim leaves
--- for the cleaner.
+-- Version entries that no chain has: what a Keep leaves for a Row, and what a Revert or a Trim
+-- leaves for the cleaner.
 use Rattle.std.specs.Prelude.{◌≡◌, ℕ, true, List}
 use Rattle.ctr_area.specs.ctr_page.declared.rows.Place.{Place}
 use Rattle.ctr_area.specs.Areas.{RowVersion, Older, Area}

@@ -36,17 +36,17 @@ older_copy slot version = record {
   pointer = slot.pointer;
 }
 
--- A version of a slot was kept at a place: it stands in an entry of the table's version store, which
--- leads on as the slot does, and is in no chain.
+-- A version of a slot was kept at a place: it stands in an entry of the table's version store,
+-- which leads on as the slot does, and is in no chain.
 pub record IsSpareCopy (area : Area) (e : ℕ) (slot : Slot) (version : RowVersion) (q : Place)
     : Type 0 where
   pub here : IsAmong q (older_places area e)
   pub copy : area.older q ≡ older_copy slot version
   pub unlinked : (f : ℕ) (b : Place) → IsUsedSlot area f b → IsAmong q (along area b) → ⊥
 
--- The ways to write a slot: over a head that isn't committed; the head becomes the previous version;
--- it does, and the previous version was kept at a place; the head was kept at a place; the first
--- version of a free slot.
+-- The ways to write a slot: over a head that isn't committed; the head becomes the previous
+-- version; it does, and the previous version was kept at a place; the head was kept at a place; the
+-- first version of a free slot.
 pub data Writing : Type 0 where
   OverHead : Writing
   HeadMoves : Writing
@@ -81,7 +81,8 @@ slot_by m area = written_slot m.writing (m.xid, m.row) m.key (area.slot m.at)
 abbrev pub row_moved : RowMove → Area → Area
 row_moved m area = with_slot m.at (slot_by m area) area
 
--- the transaction that loses its head with a new one: the head's, where it isn't committed; 0 for none
+-- the transaction that loses its head with a new one: the head's, where it isn't committed; 0 for
+-- none
 abbrev pub loses_head : Tables → Slot → ℕ
 loses_head tables slot =
     if slot.used && not (is_committed_in tables slot.head.0) then slot.head.0 else 0
@@ -101,8 +102,8 @@ pub record IsRoomFor (area : Area) (e : ℕ) (key : ℤ) (at : Place) : Type 0 w
   pub free : (area.slot at).used ≡ false
   pub none : (b : Place) → IsSlotOfKey area e key b → ⊥
 
--- What each way owes beside. The head isn't committed, or it is: then the previous version's place is
--- free, or that version was kept; or there is none, and the head was kept.
+-- What each way owes beside. The head isn't committed, or it is: then the previous version's place
+-- is free, or that version was kept; or there is none, and the head was kept.
 abbrev pub FitsWriting : Writing → (ℕ → Bool) → Area → ℕ → ℤ → Place → Type 0
 FitsWriting OverHead committed area e key at = IsSlotOfKey area e key at
     × (committed (area.slot at).head.0 ≡ false)
@@ -126,8 +127,8 @@ pub record OwedByRow (tables : Tables) (area : Area) (m : RowMove) : Type 0 wher
 abbrev pub AgreeOnCommits : Numbers → Tables → Type 0
 AgreeOnCommits number tables = (x : ℕ) → is_some (number x) ≡ is_committed_in tables x
 
--- What comes in the head's place: the previous version; the one that is kept where the pointer leads;
--- nothing, so that the slot is free.
+-- What comes in the head's place: the previous version; the one that is kept where the pointer
+-- leads; nothing, so that the slot is free.
 pub data Reverting : Type 0 where
   ToPrevious : Reverting
   ToKept : Reverting
@@ -291,8 +292,8 @@ pub record OwedByOlderLink (tables : Tables) (area : Area) (x p e : ℕ) : Type 
   pub header : area.header p ≡ versions_header e (area.firsts e).versions
   pub there : e < 32
 
--- What an Unlink from a bucket owes: the table isn't live, the page is its first one, and no used slot
--- on it has a head of an open or an aborted transaction.
+-- What an Unlink from a bucket owes: the table isn't live, the page is its first one, and no used
+-- slot on it has a head of an open or an aborted transaction.
 pub record OwedByUnlink (tables : Tables) (area : Area) (p e bucket : ℕ) : Type 0 where
   pub dead : is_live (area.title e) ≡ false
   pub there : bucket < length (area.firsts e).buckets
@@ -345,8 +346,8 @@ pub record OwedByCreate (tables : Tables) (area : Area) (x e : ℕ) (name : List
       → stands_for (is_committed_in tables) x (area.title f) ≡ false
   pub alone : IsNameFreeFor x tables.items area.title name
 
--- What a Trim that makes a dropped entry dead owes: it is live, who dropped it passes, and who passes
--- is committed.
+-- What a Trim that makes a dropped entry dead owes: it is live, who dropped it passes, and who
+-- passes is committed.
 pub record OwedByDying (passes : ℕ → Bool) (tables : Tables) (area : Area) (e : ℕ) : Type 0 where
   pub inside : e < 32
   pub live : is_live (area.title e) ≡ true

@@ -15,7 +15,7 @@ use Rattle.ctr_meta.specs.Tables.{no_tables}
 use Rattle.ctr_meta.specs.Effects.{effect, tables_of}
 use Rattle.ctr_redo.specs.Fitting.{EachFits, BeginsOnce, FilesBegin, TablesGoOn}
 use Rattle.ctr_redo.specs.States.{state_of, step, steps}
-use Rattle.ctr_redo.specs.Images.{records_in, stored_in, IsSound, FoldsTo, IsLogFile, MayBegin}
+use Rattle.ctr_redo.specs.Images.{records_in, stored_in, IsSound, FoldsTo, IsLogFile, MayBeginSecond}
 use Rattle.ctr_redo.proofs.FitLaws.{tables_behind, tables_behind_is, go_on_push, newer_out, choose_no, choose_yes, named_kept}
 use Rattle.ctr_redo.proofs.ImageLaws.{KeepsHomes, logs_apart, sound_more, state_flushed}
 use Rattle.ctr_redo.proofs.Generations.{is_checkpoint, state_checkpoint}
@@ -41,7 +41,7 @@ begun_by : (b : List ℕ) (n : ℕ) (ys : List (List ℕ)) → ys ≡ take n (b 
 begun_by b zero ys is some begun = absurd (omega (arith, some, ap length is))
 begun_by b (suc n) ys is some begun = subst BeginsOnce (sym (is ∙ ap (λ (l : List (List ℕ)). b ∷ l) (take-nil n))) begun
 
-module _ (root : Root) (b : List ℕ) (old new : Image) (sound : IsSound root old) (may : MayBegin root b old) (others : OtherFilesStay (other_file root.file) old new) where
+module _ (root : Root) (b : List ℕ) (old new : Image) (sound : IsSound root old) (may : MayBeginSecond root b old) (others : OtherFilesStay (other_file root.file) old new) where
   abbrev kept : List (List ℕ)
   kept = kept_log root.file root.first old
 
@@ -100,7 +100,7 @@ module _ (root : Root) (b : List ℕ) (old new : Image) (sound : IsSound root ol
   state_begun n log = state_flushed root (take n (b ∷ [])) old new sound same log ∙ no_steps n
 
 -- a crash while a generation begins
-pub folds_begun : (root : Root) (b : List ℕ) (old new : Image) → IsSound root old → MayBegin root b old → KeepsPrefix (other_file root.file) root.file root.first (b ∷ []) old new → FoldsTo new (state_of (stored_in root old))
+pub folds_begun : (root : Root) (b : List ℕ) (old new : Image) → IsSound root old → MayBeginSecond root b old → KeepsPrefix (other_file root.file) root.file root.first (b ∷ []) old new → FoldsTo new (state_of (stored_in root old))
 folds_begun root b old new sound may keeps = record {
   root = root;
   sound = sound_begun root b old new sound may keeps.others keeps.count keeps.holds;

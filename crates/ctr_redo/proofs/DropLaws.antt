@@ -21,7 +21,7 @@ use Rattle.ctr_meta.specs.Needs.{needs}
 use Rattle.ctr_pool.specs.Pages.{PageHeld}
 use Rattle.ctr_redo.specs.Fitting.{EachFits, BeginsOnce, TablesGoOn}
 use Rattle.ctr_redo.specs.States.{Stored, state_of, next_of, without_older, AreHome}
-use Rattle.ctr_redo.specs.Images.{records_in, home_in, stored_in, IsSound, FoldsTo, named_log, other_log, newer_root, CanDrop}
+use Rattle.ctr_redo.specs.Images.{records_in, home_in, stored_in, IsSound, FoldsTo, named_log, other_log, newer_root, CanDropOlder}
 use Rattle.ctr_redo.proofs.FitLaws.{tables_behind, each_behind, go_on_append, newer_out, choose_yes}
 use Rattle.ctr_redo.proofs.StateLaws.{state_same}
 use Rattle.ctr_redo.proofs.ImageLaws.{KeepsLogs, root_apart, named_same, other_same}
@@ -73,7 +73,7 @@ newer_passes root start is later high = record {
     other_low zero = omega arith
     other_low (suc n) = omega arith
 
-module _ (root : Root) (start : ℕ) (old : Image) (sound : IsSound root old) (can : CanDrop root start old) where
+module _ (root : Root) (start : ℕ) (old : Image) (sound : IsSound root old) (can : CanDropOlder root start old) where
   abbrev xs : List (List ℕ)
   xs = named_log root old
 
@@ -183,6 +183,6 @@ module _ (root : Root) (start : ℕ) (old : Image) (sound : IsSound root old) (c
     folds_without is = record { root = newer; sound = sound_dropped is; state_is = state_without }
 
 -- a crash in the root's writing that drops the older one
-pub folds_dropped : (root : Root) (start : ℕ) (old new : Image) → IsSound root old → CanDrop root start old → IsOldOrNewValue RootBlock (root_block (newer_root start root)) old new → FoldsTo new (state_of (stored_in root old))
+pub folds_dropped : (root : Root) (start : ℕ) (old new : Image) → IsSound root old → CanDropOlder root start old → IsOldOrNewValue RootBlock (root_block (newer_root start root)) old new → FoldsTo new (state_of (stored_in root old))
 folds_dropped root start old new sound can (others, inl is) = folds_before root old new others sound is
 folds_dropped root start old new sound can (others, inr is) = folds_without root start old sound can new others is

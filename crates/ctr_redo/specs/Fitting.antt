@@ -1,4 +1,5 @@
--- Which records make a log: each fits behind those before it, and a Checkpoint begins each file of it.
+-- Which records make a log: each fits behind those before it, and a Checkpoint begins each file of
+-- it.
 use Rattle.std.specs.Prelude.{◌≡◌, ◌≢◌, ◌<◌, ℕ, true, List, [], ◌∷◌, ◌++◌, Option, Some, None, Ok}
 use Rattle.ctr_log.specs.types_File.{File}
 use Rattle.ctr_log.specs.home_Root.{Root}

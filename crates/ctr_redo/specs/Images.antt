@@ -43,8 +43,9 @@ stored_in root image = record {
 }
 
 -- The image says this root, its log is whole, each of its records fits behind those before it, a
--- Checkpoint begins each of its files, and that of a second one lists the tables before it; its pages
--- have their numbers and no record that the log lacks, and the file of pages has all that are counted.
+-- Checkpoint begins each of its files, and that of a second one lists the tables before it; its
+-- pages have their numbers and no record that the log lacks, and the file of pages has all that are
+-- counted.
 pub record IsSound (root : Root) (image : Image) : Type 0 where
   pub says : SaysRoot (value_of RootBlock image) root
   pub log : HoldsLog root.file root.first (kept_log root.file root.first image) image
@@ -89,8 +90,8 @@ pub record MayStand (root : Root) (image : Image) (p : ℕ) (v : BlockValue) : T
   pub same : overlaid p root.first (stored_in root image).records (held_by v)
       ≡ overlaid p root.first (stored_in root image).records (home_in root.pages image p)
 
--- More pages can be counted: the pages that are added are blank in the file, which has them, and the
--- root says the rest as before.
+-- More pages can be counted: the pages that are added are blank in the file, which has them, and
+-- the root says the rest as before.
 pub record CanCount (root more : Root) (image : Image) : Type 0 where
   pub is_root : IsRoot more
   pub file : more.file ≡ root.file
@@ -109,9 +110,9 @@ named_log root image = log_in (content (log_file root.file) image)
 abbrev pub other_log : Root → Image → List (List ℕ)
 other_log root image = log_in (content (other_file root.file) image)
 
--- A second generation can begin with this record: one alone is kept, and the record fits behind it and
--- is a Checkpoint that leaves the tables as they are.
-pub record MayBegin (root : Root) (bytes : List ℕ) (image : Image) : Type 0 where
+-- A second generation can begin with this record: one alone is kept, and the record fits behind it
+-- and is a Checkpoint that leaves the tables as they are.
+pub record MayBeginSecond (root : Root) (bytes : List ℕ) (image : Image) : Type 0 where
   pub one : has_newer root.first (content (log_file root.file) image) (content (other_file root.file) image)
       ≡ false
   pub fits : EachFits root.pages no_tables (kept_log root.file root.first image ++ bytes ∷ [])
@@ -127,7 +128,7 @@ newer_root start r =
 
 -- The older of two generations can be dropped: the newer one begins with this LSN, behind the older
 -- one's records, and each page's home has these.
-pub record CanDrop (root : Root) (start : ℕ) (image : Image) : Type 0 where
+pub record CanDropOlder (root : Root) (start : ℕ) (image : Image) : Type 0 where
   pub two : has_newer root.first (content (log_file root.file) image) (content (other_file root.file) image)
       ≡ true
   pub start_is : start ≡ root.first + length (named_log root image)

@@ -44,8 +44,8 @@ abbrev pub overlaid : ℕ → ℕ → List Record → PageHeld → PageHeld
 overlaid p lsn [] h = h
 overlaid p lsn (r ∷ rs) h = overlaid p (lsn + 1) rs (with_record p lsn r h)
 
--- The bytes of a page of an image: those of its home, overlaid in order by each record with a greater
--- LSN than the home's stamp. The first record has this LSN.
+-- The bytes of a page of an image: those of its home, overlaid in order by each record with a
+-- greater LSN than the home's stamp. The first record has this LSN.
 abbrev pub by_home : ℕ → ℕ → ℕ → List Record → List ℕ → List ℕ
 by_home p stamp lsn [] body = body
 by_home p stamp lsn (r ∷ rs) body =

@@ -10,8 +10,8 @@ use Rattle.ctr_redo.specs.Overlaid.{touches, changed_by, overlaid}
 unfoldable pub page_limit : ℕ
 page_limit = 30000
 
--- What the layers above see of an image: how many pages are counted, the bytes of each page there may
--- be, the tables. A page that isn't counted is blank.
+-- What the layers above see of an image: how many pages are counted, the bytes of each page there
+-- may be, the tables. A page that isn't counted is blank.
 pub record State : Type 0 where
   pub counted : ℕ
   pub pages : List (List ℕ)

@@ -10,7 +10,7 @@ ghost use Rattle.ctr_log.specs.home_Writing.{IsOldOrNewValue};
 ghost use Rattle.ctr_log.specs.Kept.{other_file, KeepsPrefix};
 ghost use Rattle.ctr_redo.specs.States.{page_limit, state_of, with_more, page_at};
 ghost use Rattle.ctr_redo.specs.Fitting.{MayFollow};
-ghost use Rattle.ctr_redo.specs.Images.{records_in, stored_in, IsSound, FoldsTo, FoldsFront, MayStand, CanCount, MayBegin, newer_root, CanDrop, new_state, IsNewDatabase};
+ghost use Rattle.ctr_redo.specs.Images.{records_in, stored_in, IsSound, FoldsTo, FoldsFront, MayStand, CanCount, MayBeginSecond, newer_root, CanDropOlder, new_state, IsNewDatabase};
 
 /// A crash in a flush of records that may follow the log leaves an image that is sound and folds to the state with a
 /// prefix of them.
@@ -36,16 +36,16 @@ pub fn more_pages_can_be_counted()
 /// A crash while a second generation begins leaves an image that is sound and folds to the same state: whether its
 /// Checkpoint is found or not.
 pub fn a_generation_leaves_the_state()
-    ensures { (root : Root) (checkpoint : List ℕ) (old new : Image) → IsSound root old → MayBegin root checkpoint old → KeepsPrefix (other_file root.file) root.file root.first (checkpoint ∷ []) old new
+    ensures { (root : Root) (checkpoint : List ℕ) (old new : Image) → IsSound root old → MayBeginSecond root checkpoint old → KeepsPrefix (other_file root.file) root.file root.first (checkpoint ∷ []) old new
         → FoldsTo new (state_of (stored_in root old)) }
 {}
 
 /// A crash in the root's writing that drops the older of two generations leaves an image that is sound and folds to the
 /// same state: whether the older one is kept or not. The root that is written passes its checks.
 pub fn an_older_generation_can_go()
-    ensures leaves { (root : Root) (start : ℕ) (old new : Image) → IsSound root old → CanDrop root start old → IsOldOrNewValue RootBlock (root_block (newer_root start root)) old new
+    ensures leaves { (root : Root) (start : ℕ) (old new : Image) → IsSound root old → CanDropOlder root start old → IsOldOrNewValue RootBlock (root_block (newer_root start root)) old new
         → FoldsTo new (state_of (stored_in root old)) }
-    ensures passes { (root : Root) (start : ℕ) (image : Image) → IsSound root image → CanDrop root start image → IsRoot (newer_root start root) }
+    ensures passes { (root : Root) (start : ℕ) (image : Image) → IsSound root image → CanDropOlder root start image → IsRoot (newer_root start root) }
 {}
 
 /// A new database is sound, and folds to the state in which no page has anything and no transaction was.

@@ -12,7 +12,7 @@ pub record IsActiveWriter {c : Start} {w : Mind} {s : ℕ} (seat : InTransaction
   pub some : 0 < seat.session.me
   pub unasked : seat.t.asked ≡ None
 
--- These are tables among those that the session counts on, and it made none of them.
+-- Facts are of tables among those that a session counts on, and it made none of them.
 pub record AreOthersTables {c : Start} {w : Mind} {s : ℕ} (seat : InTransaction c w s)
     (facts more : List Fact) : Type 0 where
   pub tables : AreTables more

@@ -20,7 +20,7 @@ use Rattle.ctr_serial.proofs.Lists.{count_front, count_mine, serial_front}
 use Rattle.ctr_world.proofs.exec_Places.{count_of, runner_of}
 use Rattle.ctr_world.specs.exec_Runner.{Runner}
 use Rattle.ctr_world.specs.exec_sessions_Sessions.{Sessions}
-use Rattle.ctr_world.specs.exec_Order.{IsOrdered, IsReleaseEntry, StandInOrder, led_from}
+use Rattle.ctr_world.specs.exec_Order.{IsTapeOrdered, IsReleaseEntry, StandInOrder, led_from}
 use Rattle.ctr_world.specs.exec_Runners.{AreRunners, runner_at, IsRunnerOf}
 use Rattle.ctr_world.specs.Held.{Held}
 use Rattle.ctr_world.specs.Opened.{IsRunLine}
@@ -32,7 +32,7 @@ use Rattle.ctr_run.proofs.Turning.{begins_line, of_line, serial_in, turn_comes, 
 
 -- what a World says of where it stands
 pub record Stands {D : Type 0} (g : Ghosts D) (start : ℕ) (lines : List Line) (w : Held D) : Type 0 where
-  pub going : w.stop ≡ None → IsOrdered start (g.moment_of w.running.store.disk) w.running.sessions
+  pub going : w.stop ≡ None → IsTapeOrdered start (g.moment_of w.running.store.disk) w.running.sessions
   pub seats : w.stop ≡ None → (length w.running.sessions.runners.items ≡ 8) × AreRunners lines 1 w.running.sessions.runners.items
   pub lines_are : w.running.sessions.script.lines ≡ lines
 

@@ -31,7 +31,7 @@ use Rattle.ctr_world.specs.declared.opening.Opening.{Ghosts as Opening}
 use Rattle.ctr_world.specs.exec_Order.{StandInOrder}
 use Rattle.ctr_world.specs.Held.{Held}
 use Rattle.ctr_world.specs.Opened.{IsOpenedOn, IsRunLine}
-use Rattle.ctr_world.specs.World.{IsLegalTape, IsTapeOf, LeavesPrefix, StopsBy, IsUndamaged as GoesUndamaged}
+use Rattle.ctr_world.specs.World.{IsLegalTape, IsTapeOf, LeavesPrefix, StopsBy, IsUndamagedStop as GoesUndamaged}
 use Rattle.ctr_world.specs.Ended.{Ends, EndsInOrder, IsUnbegunWorld, PassesOpening, RefusesWorld}
 use Rattle.ctr_model.specs.Database.{after_all}
 use Rattle.ctr_world.specs.totals_Totals.{no_totals, AreTotals}
@@ -43,7 +43,7 @@ use Rattle.ctr_run.specs.declared.ran.Left.{Left}
 use Rattle.ctr_run.specs.declared.ran.RunEnd.{RunEnd}
 use Rattle.ctr_run.specs.declared.ran.RunEnd.TheVariants.{Finished, Unopened, Stopped}
 use Rattle.ctr_run.specs.Lines.{IsAtRest, RanOrStopped}
-use Rattle.ctr_run.specs.Running.{EndsAsAsked, EndsFor, RunsInOrder, RunsOver, StopsFor, TellsNoDamage, end_by, opened_on}
+use Rattle.ctr_run.specs.Running.{EndsAsAsked, EndsRunFor, RunsInOrder, RunsOver, StopsFor, TellsNoDamage, end_by, opened_on}
 use Rattle.ctr_run.proofs.Order.{only_recovery_ends, order_behind, recovery_adds_none}
 
 -- where a run begins over a database in a state
@@ -128,13 +128,13 @@ module _ {D B : Type 0} (o : Opening B) (first : Image) (g : Ghosts D) (old : D)
     stops_for (stop.Worn lsn) is undamaged worn = worn lsn is
 
     pub ends_for : StopsBy stopped o.faults (g.faults_of l.disk) → (IsTrue g.tells → PassesOpening first) → (IsTrue g.tells → (st : State) → StandsForDatabase first st → GoesUndamaged stopped)
-        → ((lsn : ℕ) → stopped ≡ Some (stop.Worn lsn) → 2 ^ 63 - 1 ≤ lsn) → EndsFor g old l.disk end
-    ends_for stops passes undamaged worn = subst (EndsFor g old l.disk) (sym ended) (by stopped refl (subst (λ n. StopsBy stopped n (g.faults_of l.disk)) named.faults stops))
+        → ((lsn : ℕ) → stopped ≡ Some (stop.Worn lsn) → 2 ^ 63 - 1 ≤ lsn) → EndsRunFor g old l.disk end
+    ends_for stops passes undamaged worn = subst (EndsRunFor g old l.disk) (sym ended) (by stopped refl (subst (λ n. StopsBy stopped n (g.faults_of l.disk)) named.faults stops))
       where
         passes_old : IsTrue g.tells → PassesOpening (g.reads old)
         passes_old told = subst PassesOpening named.image (passes told)
 
-        by : (s : Option Stop) → stopped ≡ s → StopsBy stopped (g.faults_of old) (g.faults_of l.disk) → EndsFor g old l.disk (end_by s)
+        by : (s : Option Stop) → stopped ≡ s → StopsBy stopped (g.faults_of old) (g.faults_of l.disk) → EndsRunFor g old l.disk (end_by s)
         by None is stops = (subst (λ (q : Option Stop). StopsBy q (g.faults_of old) (g.faults_of l.disk)) is stops, passes_old)
         by (Some s) is stops = (subst (λ (q : Option Stop). StopsBy q (g.faults_of old) (g.faults_of l.disk)) is stops, passes_old, stops_for s is undamaged worn)
 
@@ -193,7 +193,7 @@ module _ {D : Type 0} (g : Ghosts D) (earlier : (d : D) (s t : ℕ) (c : Image) 
   pub untouched_in_order : RunsInOrder g old lines done l
   untouched_in_order = none_in_order g old lines l done unfinished tape undone later_same faults_same
 
-  pub untouched_for : EndsFor g old l.disk (Unopened open_error.OutOfMemory)
+  pub untouched_for : EndsRunFor g old l.disk (Unopened open_error.OutOfMemory)
   untouched_for = (record { later = later_same; faults_later = faults_same; fault = λ is. absurd (cc is); no_fault = λ isnt. ap (λ d. g.faults_of d) disk }, λ told. tt)
 
 -- the end of a World isn't that of one that wasn't opened
@@ -212,7 +212,7 @@ worn_not image n refuses passes =
     let same = one_root (value_of RootBlock image) refuses.0 passes.root refuses.1.0 passes.stands.0 in
     cc (sym (subst (λ (r : Root). worn_in r image ≡ Some n) same refuses.4) ∙ passes.fresh)
 
-pub as_asked : {D : Type 0} (g : Ghosts D) (old new : D) (s : State) (e : RunEnd) → IsTrue g.tells → StandsForDatabase (g.reads old) s → TellsNoDamage e → EndsFor g old new e → EndsAsAsked g old new e
+pub as_asked : {D : Type 0} (g : Ghosts D) (old new : D) (s : State) (e : RunEnd) → IsTrue g.tells → StandsForDatabase (g.reads old) s → TellsNoDamage e → EndsRunFor g old new e → EndsAsAsked g old new e
 as_asked g old new s Finished told stands undamaged ends = tt
 as_asked g old new s (Unopened open_error.NoDatabase) told stands undamaged ends = undamaged
 as_asked g old new s (Unopened (open_error.Damaged d)) told stands undamaged ends = undamaged

@@ -24,7 +24,7 @@ use Rattle.ctr_run.specs.declared.ran.Ran.{Ran}
 use Rattle.ctr_run.specs.declared.ran.RunEnd.{RunEnd}
 use Rattle.ctr_run.specs.declared.ran.RunEnd.TheVariants.{Finished, Unopened}
 use Rattle.ctr_run.specs.Promises.{IsRunOf}
-use Rattle.ctr_run.specs.Running.{EndsFor, TellsNoDamage, end_by}
+use Rattle.ctr_run.specs.Running.{EndsRunFor, TellsNoDamage, end_by}
 use Rattle.ctr_run.proofs.Ends.{as_asked, counted_moved, ends_for, none_counted, none_in_order, none_leaves, none_over, not_finished, not_unopened, runs_in_order, runs_over, tells_none, untouched_for, untouched_leaves}
 
 -- ---- it wasn't opened
@@ -37,7 +37,7 @@ module _ {D : Type 0} (g : Ghosts D) (earlier : (d : D) (s t : ℕ) (c : Image) 
       → IsRunOf g old lines totals r
   refused error end stays why undamaged left =
       let unfinished = not_finished r.end error end in
-      let ends : EndsFor g old r.left.disk r.end = subst (EndsFor g old r.left.disk) (sym end) (stays, why) in
+      let ends : EndsRunFor g old r.left.disk r.end = subst (EndsRunFor g old r.left.disk) (sym end) (stays, why) in
       record {
         ran = λ s told stands. none_over g old lines r.left (r.end ≡ Finished) unfinished tape undone s stays.later (none_leaves g earlier old r.left.disk lines s (left s told stands));
         order = none_in_order g old lines r.left (r.end ≡ Finished) unfinished tape undone stays.later stays.faults_later;

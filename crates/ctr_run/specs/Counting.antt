@@ -10,8 +10,8 @@ use Rattle.ctr_run.specs.declared.ran.Ran.{Ran}
 use Rattle.ctr_run.specs.declared.ran.RunEnd.TheVariants.{Finished}
 use Rattle.ctr_run.specs.Running.{opened_on}
 
--- Nothing was counted, where that wasn't asked for, or the run isn't finished; else, over a database,
--- the totals of the rows that the tape has led to.
+-- Nothing was counted, where that wasn't asked for, or the run isn't finished; else, over a
+-- database, the totals of the rows that the tape has led to.
 pub record CountsAsked {D : Type 0} (g : Ghosts D) (old : D) (lines : List Line) (asked : Bool)
     (r : Ran D) : Type 0 where
   pub counted : (s : State) → IsTrue g.tells → StandsForDatabase (g.reads old) s → asked ≡ true

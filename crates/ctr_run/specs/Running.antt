@@ -18,7 +18,7 @@ use Rattle.ctr_record_effects.specs.Standing.{StandsForDatabase}
 use Rattle.ctr_world.specs.stops_Stops.{HasFirstCommits}
 use Rattle.ctr_store.specs.Opening.{IsUndamaged}
 use Rattle.ctr_world.specs.declared.opening.Opening.{Ghosts as Opening}
-use Rattle.ctr_world.specs.World.{start_in, led_to, IsFullEntry, IsLegalTape, IsTapeOf, LeavesPrefix, StopsBy, IsUndamaged as GoesUndamaged}
+use Rattle.ctr_world.specs.World.{start_in, led_to, IsFullEntry, IsLegalTape, IsTapeOf, LeavesPrefix, StopsBy, IsUndamagedStop as GoesUndamaged}
 use Rattle.ctr_world.specs.Ended.{CountsAllPages, HasNoUndoOf, PassesOpening, RefusesWith, RefusesWorld, StandsForNone}
 use Rattle.ctr_run.specs.declared.ran.Left.{Left}
 use Rattle.ctr_run.specs.declared.ran.RunEnd.{RunEnd}
@@ -41,8 +41,8 @@ opened_on g disk lines = record {
 -- ---- over a database in a state
 
 -- Every statement is finished, recovery holds no name, undo took a turn for each item and open
--- transaction of the start, and a crash at the end leaves every commit, nothing of the start to undo,
--- and, where a Write was refused as Full, a file of 30,000 pages.
+-- transaction of the start, and a crash at the end leaves every commit, nothing of the start to
+-- undo, and, where a Write was refused as Full, a file of 30,000 pages.
 pub record IsComplete {D : Type 0} (g : Ghosts D) (old : D) (s : State) (lines : List Line)
     (l : Left D) : Type 0 where
   pub whole : IsWhole lines (led_to (opened_on g old lines) s l.tape.entries)
@@ -61,9 +61,9 @@ TellsNoDamage Finished = Unit {0}
 TellsNoDamage (Unopened e) = IsUndamaged e
 TellsNoDamage (Stopped s) = GoesUndamaged (Some s)
 
--- The tape is legal, and its moments lie in the run. However it ends, a crash at each moment leaves a
--- prefix of the commit order with every commit answered by then, or, before the first entry, what it
--- might have left as the run began. Undo took no more turns than the start had items and open
+-- The tape is legal, and its moments lie in the run. However it ends, a crash at each moment leaves
+-- a prefix of the commit order with every commit answered by then, or, before the first entry, what
+-- it might have left as the run began. Undo took no more turns than the start had items and open
 -- transactions. A run that is done is complete.
 pub record RunsOver {D : Type 0} (g : Ghosts D) (old : D) (s : State) (lines : List Line)
     (done : Type 0) (l : Left D) : Type 0 where
@@ -82,8 +82,8 @@ pub record RunsNone {D : Type 0} (g : Ghosts D) (old : D) (l : Left D) : Type 0 
 
 -- ---- whatever the disk tells
 
--- The tape stands in the order of the script, and its moments lie in the run, in which neither time nor
--- the count of faults goes back; where the run is done, the tape is whole.
+-- The tape stands in the order of the script, and its moments lie in the run, in which neither time
+-- nor the count of faults goes back; where the run is done, the tape is whole.
 pub record RunsInOrder {D : Type 0} (g : Ghosts D) (old : D) (lines : List Line) (done : Type 0)
     (l : Left D) : Type 0 where
   pub tape : IsTapeOf (opened_on g old lines) (g.moment_of l.disk) l.tape.entries
@@ -97,17 +97,17 @@ StopsFor g old stop.Fault = Unit {0}
 StopsFor g old (stop.Damaged d) = IsTrue g.tells → StandsForNone (g.reads old)
 StopsFor g old (stop.Worn lsn) = 2 ^ 63 - 1 ≤ lsn
 
--- What each end says of the disk: that it was opened, why it wasn't, or why the World was stopped. A
--- fault is told where the disk counts one more, and nowhere else.
-abbrev pub EndsFor : {D : Type 0} → Ghosts D → D → D → RunEnd → Type 0
-EndsFor g old new Finished = (g.faults_of new ≡ g.faults_of old)
+-- What each end says of the disk: that it was opened, why it wasn't, or why the World was stopped.
+-- A fault is told where the disk counts one more, and nowhere else.
+abbrev pub EndsRunFor : {D : Type 0} → Ghosts D → D → D → RunEnd → Type 0
+EndsRunFor g old new Finished = (g.faults_of new ≡ g.faults_of old)
     × (IsTrue g.tells → PassesOpening (g.reads old))
-EndsFor g old new (Unopened e) = RefusesWith g old e new × (IsTrue g.tells → RefusesWorld (g.reads old) e)
-EndsFor g old new (Stopped s) = StopsBy (Some s) (g.faults_of old) (g.faults_of new)
+EndsRunFor g old new (Unopened e) = RefusesWith g old e new × (IsTrue g.tells → RefusesWorld (g.reads old) e)
+EndsRunFor g old new (Stopped s) = StopsBy (Some s) (g.faults_of old) (g.faults_of new)
     × (IsTrue g.tells → PassesOpening (g.reads old)) × StopsFor g old s
 
--- Over a database a run is finished, unless the disk counts a fault, memory was refused before it was
--- opened, a number of the start is worn, or it tells the last number of a record.
+-- Over a database a run is finished, unless the disk counts a fault, memory was refused before it
+-- was opened, a number of the start is worn, or it tells the last number of a record.
 abbrev pub EndsAsAsked : {D : Type 0} → Ghosts D → D → D → RunEnd → Type 0
 EndsAsAsked g old new Finished = Unit {0}
 EndsAsAsked g old new (Unopened open_error.NoDatabase) = ⊥

@@ -1,5 +1,5 @@
 // The turns of a World on threads, under one lock.
-ghost use Rattle.ctr_workers.specs.Leads.{Leads};
+ghost use Rattle.ctr_workers.specs.Leads.{LeadsByTurns};
 ghost use Rattle.ctr_workers.specs.Workers.{IsActor};
 ghost use Rattle.ctr_world.specs.Turns.{EndsTurn};
 ghost use Rattle.ctr_run.specs.Beside.{StepsTo};
@@ -53,7 +53,7 @@ pub(crate) fn run_workers<
     B: Origin + Opening + Send,
     G: Gate + Sync,
 >(workers: Workers<'_, R, G>, alloc: Global, world: World<D, B>, sessions: u8) -> World<D, B>
-    ensures { ∥ Leads IsActor (StepsTo D.Disk) world result ∥₁ }
+    ensures { ∥ LeadsByTurns IsActor (StepsTo D.Disk) world result ∥₁ }
 {
     let locked = run_turns(workers.rt, Locked { world, alloc }, sessions, workers.gate);
     let Locked { world, alloc: _ } = locked;

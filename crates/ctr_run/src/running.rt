@@ -16,7 +16,7 @@ ghost use Rattle.ctr_run.specs.Beside.{CameByTurns};
 ghost use Rattle.ctr_run.specs.Counting.{CountsAsked};
 ghost use Rattle.ctr_run.specs.Lines.{RanOrStopped};
 ghost use Rattle.ctr_run.specs.Promises.{IsRunOf, IsUnopened};
-ghost use Rattle.ctr_run.specs.Running.{EndsAsAsked, EndsFor, RunsInOrder, RunsNone, RunsOver};
+ghost use Rattle.ctr_run.specs.Running.{EndsAsAsked, EndsRunFor, RunsInOrder, RunsNone, RunsOver};
 
 use crate::beside::{Workers, run_workers};
 use crate::lines::{Schedule, run_first, run_turns};
@@ -176,7 +176,7 @@ pub fn run<D: Disk>(
     // Where the database isn't opened, nothing is run, and a crash leaves it as it was.
     ensures none { (e : HeldError) → result.end ≡ Unopened e → RunsNone D.Disk disk result.left }
     // Each end has its cause.
-    ensures ends { EndsFor D.Disk disk result.left.disk result.end }
+    ensures ends { EndsRunFor D.Disk disk result.left.disk result.end }
     // What was counted of the loaded table: over a database, where the run is finished, the totals of all that asked for a commit.
     ensures counts { CountsAsked D.Disk disk script.lines totals result }
     // Where nothing fails, what is opened is finished, or comes to the last number of a record.

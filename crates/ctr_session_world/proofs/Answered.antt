@@ -31,7 +31,7 @@ use Rattle.ctr_told.proofs.kept_Walking.{keeps_reached}
 use Rattle.ctr_told.specs.kept_Walk.{Mind}
 use Rattle.ctr_told.specs.kept_Turns.{Start, entry_of, point_now, start_point, state_now}
 use Rattle.ctr_session_world.specs.World.{SessionsHeld, InWorld}
-use Rattle.ctr_session_world.specs.Told.{CountsBehind, CountsOnTables, IsIdleBy, IsIdleIn, IsNextOf, IsTold}
+use Rattle.ctr_session_world.specs.Told.{CountsBehindReply, CountsOnTables, IsIdleBy, IsIdleIn, IsNextOf, IsActTold}
 use Rattle.ctr_session_world.proofs.Standing.{told_state}
 
 -- ---- who counts on tables
@@ -80,7 +80,7 @@ module _ (state : State) (s : ℕ) (statement : Statement) (was now : List Fact)
   abbrev Left : Act → Option Transaction → Reply → Type 0
   Left x o r = CountsOnTables now ⊎ IsIdleBy (transaction_of (next_from state s o x (Some statement) r) s) now
 
-  left_outside : (x : Act) (r : Reply) → transaction_of state s ≡ None → TellsOf state s None statement x r → CountsBehind r was now → Left x None r
+  left_outside : (x : Act) (r : Reply) → transaction_of state s ≡ None → TellsOf state s None statement x r → CountsBehindReply r was now → Left x None r
   left_outside x (reply.Began n) is tells counts = inr (subst (λ o. IsIdleBy o now) (sym (find-put-same s (begun n) state.sessions)) (λ yes. absurd (false≢true yes), λ no. counts))
   left_outside x reply.Granted is tells counts = absurd tells
   left_outside x (reply.Rows rows) is tells counts = absurd tells
@@ -92,7 +92,7 @@ module _ (state : State) (s : ℕ) (statement : Statement) (was now : List Fact)
   left_outside x reply.Released is tells counts = absurd tells
   left_outside x (reply.Refused why) is tells counts = inr (subst (λ o. IsIdleBy o now) (sym is) tt)
 
-  left_inside : (x : Act) (r : Reply) (me : Transaction) → transaction_of state s ≡ Some me → TellsOf state s (Some me) statement x r → ((k : ℕ) → r ≡ reply.Asked k → ⊥) → IsIdleBy (Some me) was → CountsBehind r was now → Left x (Some me) r
+  left_inside : (x : Act) (r : Reply) (me : Transaction) → transaction_of state s ≡ Some me → TellsOf state s (Some me) statement x r → ((k : ℕ) → r ≡ reply.Asked k → ⊥) → IsIdleBy (Some me) was → CountsBehindReply r was now → Left x (Some me) r
   left_inside x (reply.Began n) me is tells unasked idle counts = absurd tells
   left_inside x reply.Granted me is tells unasked idle counts = inl counts
   left_inside x (reply.Rows rows) me is tells unasked idle counts =
@@ -105,7 +105,7 @@ module _ (state : State) (s : ℕ) (statement : Statement) (was now : List Fact)
   left_inside x reply.Released me is tells unasked idle counts = absurd tells
   left_inside x (reply.Refused why) me is tells unasked idle counts = inr (subst (λ o. IsIdleBy o now) (sym is) (idle_same me me was now refl counts idle))
 
-  pub left_by : (x : Act) (r : Reply) (o : Option Transaction) → transaction_of state s ≡ o → TellsOf state s o statement x r → ((k : ℕ) → r ≡ reply.Asked k → ⊥) → IsIdleBy o was → CountsBehind r was now → Left x o r
+  pub left_by : (x : Act) (r : Reply) (o : Option Transaction) → transaction_of state s ≡ o → TellsOf state s o statement x r → ((k : ℕ) → r ≡ reply.Asked k → ⊥) → IsIdleBy o was → CountsBehindReply r was now → Left x o r
   left_by x r None is tells unasked idle counts = left_outside x r is tells counts
   left_by x r (Some me) is tells unasked idle counts = left_inside x r me is tells unasked idle counts
 
@@ -128,7 +128,7 @@ no_number : (n f : ℕ) → n ≡ f + 1 → n ≡ 0 → ⊥
 no_number n f is none = omega (arith, is, none)
 
 module _ {D : Type 0} (g : Ghosts D) (c : Start) (opened : D) (a b : View D) (h : SessionsHeld) (s : ℕ) (statement : Statement) (made : ℕ) (next : IsNextOf g c opened a b h s statement made) (now : SessionsHeld) (x : Act) (r : Reply)
-    (told : IsTold next now x r) where
+    (told : IsActTold next now x r) where
   abbrev point : Point
   point = point_now c next.mind
 
@@ -165,7 +165,7 @@ module _ {D : Type 0} (g : Ghosts D) (c : Start) (opened : D) (a b : View D) (h 
 
 -- and behind a ROLLBACK on nothing
 pub idle_rolled : {D : Type 0} (g : Ghosts D) (c : Start) (opened : D) (a b : View D) (h : SessionsHeld) (s : ℕ) (statement : Statement) (made : ℕ) (next : IsNextOf g c opened a b h s statement made) (now : SessionsHeld) (r : Reply)
-    → (told : IsTold next now act.Rollback r) → IsIdleIn c told.mind s
+    → (told : IsActTold next now act.Rollback r) → IsIdleIn c told.mind s
 idle_rolled g c opened a b h s statement made next now r told =
     let state = state_now c next.mind in
     let none = none_left state s statement (next.mind.facts s) (told.mind.facts s) r (transaction_of state s) refl (its_act g c opened a b h s statement made next now act.Rollback r told).allowed in

@@ -23,7 +23,7 @@ use Rattle.ctr_told.specs.kept_Turns.{Start, entry_of, state_now}
 use Rattle.ctr_told.specs.stops_World.{KeepsWorld}
 use Rattle.ctr_told.specs.txn_Held.{TxnsHeld, run_of}
 use Rattle.ctr_session_world.specs.World.{SessionsHeld, IsInTable, AreInTables, names_in, AreInOrder}
-use Rattle.ctr_session_world.specs.Told.{CountsBehind, IsNextOf, IsTold}
+use Rattle.ctr_session_world.specs.Told.{CountsBehindReply, IsNextOf, IsActTold}
 use Rattle.ctr_session_world.proofs.Alike.{in_table_still, put_in_order}
 
 module _ {D : Type 0} (g : Ghosts D) (c : Start) (opened : D) (a b : View D) (h : SessionsHeld) (s : ℕ) (statement : Statement) (made : ℕ) (next : IsNextOf g c opened a b h s statement made) (x : Act) (r : Reply)
@@ -71,7 +71,7 @@ module _ {D : Type 0} (g : Ghosts D) (c : Start) (opened : D) (a b : View D) (h 
     in_order = subst (λ (l : List (ℕ × Transaction)). T (is_sorted nat_cmp l)) (sym sessions) (put_in_order s u state next.world.in_order)
 
     pub changed_told : (new : TxnsHeld) → v.run ≡ run_of new → v.undo ≡ w.undo → v.tape ≡ w.tape ++ entry_of s next.e x r ∷ [] → state_now c v ≡ now → ShowsKeyLocks (names_in a.now) left now
-        → CountsBehind r (w.facts s) mine → KeepsWorld g c opened b v → (told : IsTold next (record { txns = new; locks = left }) x r) × (told.mind ≡ v)
+        → CountsBehindReply r (w.facts s) mine → KeepsWorld g c opened b v → (told : IsActTold next (record { txns = new; locks = left }) x r) × (told.mind ≡ v)
     changed_told new run_now undo longer is_state shows counts keeps = (
       record {
         mind = v;
@@ -86,7 +86,7 @@ module _ {D : Type 0} (g : Ghosts D) (c : Start) (opened : D) (a b : View D) (h 
         undo = undo;
         names = λ e there. ap (λ (n : ℕ → List ℕ). n e) same_name_of;
         others = facts_others;
-        counts = subst (λ l. CountsBehind r (w.facts s) l) (sym facts_own) counts;
+        counts = subst (λ l. CountsBehindReply r (w.facts s) l) (sym facts_own) counts;
       },
       refl,
     )

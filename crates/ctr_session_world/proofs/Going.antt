@@ -17,7 +17,7 @@ use Rattle.ctr_told.specs.kept_Turns.{Start, state_now}
 use Rattle.ctr_told.specs.stops_World.{KeepsWorld}
 use Rattle.ctr_told.specs.page_turns_Turns.{RestsBehind}
 use Rattle.ctr_session_world.specs.World.{SessionsHeld, AreInTables, NamesStay, names_in}
-use Rattle.ctr_session_world.specs.Told.{IsNextOf, IsTold}
+use Rattle.ctr_session_world.specs.Told.{IsNextOf, IsActTold}
 
 -- pages that were read leave the rest
 pub rests_read : {D T : Type 0} (first : Image) (g : Ghosts D) (a b : View D) (x : T) → IsTrue g.tells → IsSoundImage first → LeavesPage first g a b (Ok x) → LeavesFront g b b → RestsBehind g a b
@@ -67,7 +67,7 @@ module _ {D : Type 0} (g : Ghosts D) (c : Start) (opened : D) (a m b : View D) (
   }
 
   -- what is told then is told
-  pub goes_told : (now : SessionsHeld) (x : Act) (r : Reply) → (told : IsTold goes now x r) → (then : IsTold next now x r) × (then.mind ≡ told.mind)
+  pub goes_told : (now : SessionsHeld) (x : Act) (r : Reply) → (told : IsActTold goes now x r) → (then : IsActTold next now x r) × (then.mind ≡ told.mind)
   goes_told now x r told = (record { mind = told.mind; world = told.world; tape = told.tape; undo = told.undo; names = subst (λ (q : Stored). NamesStay q b.now) pages told.names; others = told.others; counts = told.counts }, refl)
 
 pub if_ok : {T E : Type 0} (r : Result T E) {P Q : T → Type 0} → ((x : T) → P x → Q x) → IfOk r P → IfOk r Q

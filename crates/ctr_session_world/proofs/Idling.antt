@@ -6,13 +6,13 @@ use Rattle.ctr_told.specs.store_Store.{View}
 use Rattle.ctr_versions.proofs.Keys.{known}
 use Rattle.ctr_told.specs.kept_Turns.{Start, InTransaction}
 use Rattle.ctr_told.specs.kept_Walk.{Mind}
-use Rattle.ctr_told.specs.Turning.{IsIdle}
+use Rattle.ctr_told.specs.Turning.{IdleCountsOn}
 use Rattle.ctr_session_world.specs.World.{SessionsHeld, InWorld}
 use Rattle.ctr_session_world.specs.Told.{IsIdleBy, IsIdleIn}
 
 -- so it is by the number that the program has
 pub idle_seat : {D : Type 0} (g : Ghosts D) (c : Start) (opened : D) (v : View D) (h : SessionsHeld) (w : Mind) (s : ℕ) → InWorld g c opened v h w → (seat : InTransaction c w s) → IsIdleIn c w s
-    → (more : List Fact) × IsIdle seat.session.me more (w.facts s)
+    → (more : List Fact) × IdleCountsOn seat.session.me more (w.facts s)
 idle_seat g c opened v h w s world seat idle =
     let its = subst (λ o. IsIdleBy o (w.facts s)) seat.is_t idle in
     let drawn = world.keeps.walks.scene.begun.drawn s seat.t seat.session seat.is_t seat.at in

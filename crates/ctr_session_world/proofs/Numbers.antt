@@ -2,7 +2,7 @@
 use Rattle.std.proofs.Common.{◌≡◌, ◌⊎◌, inl, inr, ℕ, zero, suc, ◌<◌, List, ◌++◌, refl, arith}
 use Rattle.ctr_told.specs.actions_Facts.{Fact}
 use Rattle.ctr_told.specs.kept_Tables.{AreTables}
-use Rattle.ctr_told.specs.Turning.{facts_idle, IsIdle}
+use Rattle.ctr_told.specs.Turning.{facts_idle, IdleCountsOn}
 
 pub none_or_some : (n : ℕ) → (n ≡ 0) ⊎ (0 < n)
 none_or_some n = elim n as (λ (n : ℕ). (n ≡ 0) ⊎ (0 < n)) [ zero ↦ inl refl | suc m ↦ inr (above m) ]
@@ -11,7 +11,7 @@ none_or_some n = elim n as (λ (n : ℕ). (n ≡ 0) ⊎ (0 < n)) [ zero ↦ inl 
     above m = omega arith
 
 -- what a session with a number counts on between two statements
-pub idle_in : (n me : ℕ) (more facts : List Fact) → n ≡ me → 0 < me → IsIdle n more facts → AreTables more × (facts ≡ facts_idle ++ more)
+pub idle_in : (n me : ℕ) (more facts : List Fact) → n ≡ me → 0 < me → IdleCountsOn n more facts → AreTables more × (facts ≡ facts_idle ++ more)
 idle_in n me more facts is some (inl idle) = (idle.1, idle.2)
 idle_in n me more facts is some (inr none) = absurd (nothing n me is some none.0)
   where

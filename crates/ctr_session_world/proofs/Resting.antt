@@ -20,7 +20,7 @@ use Rattle.ctr_told.specs.kept_Walk.{Mind}
 use Rattle.ctr_told.specs.stops_World.{KeepsWorld}
 use Rattle.ctr_told.specs.page_turns_Turns.{RestsBehind}
 use Rattle.ctr_session_world.specs.World.{SessionsHeld, names_in, AreInTables, AreInOrder, InWorld}
-use Rattle.ctr_session_world.specs.Told.{IsNextOf, IsTold}
+use Rattle.ctr_session_world.specs.Told.{IsNextOf, IsActTold}
 use Rattle.ctr_session_world.proofs.Standing.{refused_state, told_state}
 
 at_once : (n : ℕ) → n ≤ n
@@ -64,7 +64,7 @@ same_held s locks = record { here = record { keys = λ e k. refl; uses = λ n. r
 module _ {D : Type 0} (g : Ghosts D) (c : Start) (opened : D) (a b : View D) (h : SessionsHeld) (s : ℕ) (statement : Statement) (made : ℕ) (next : IsNextOf g c opened a b h s statement made) where
   -- a refusal is told, where nothing was logged; the sessions may be held with more room
   pub refused_as : (now : SessionsHeld) → run_of now.txns ≡ run_of h.txns → ShowsKeyLocks (names_in a.now) now.locks (state_now c next.mind) → AreInTables a.now now.locks (state_now c next.mind) next.mind.facts
-      → (x : Act) (why : Refusal) → RestsBehind g a b → KeepsWorld g c opened b (telling next.e x (reply.Refused why) next.mind next.mind) → IsTold next now x (reply.Refused why)
+      → (x : Act) (why : Refusal) → RestsBehind g a b → KeepsWorld g c opened b (telling next.e x (reply.Refused why) next.mind next.mind) → IsActTold next now x (reply.Refused why)
   refused_as now run locks tables x why rested keeps =
       let v = telling next.e x (reply.Refused why) next.mind next.mind in
       let same = sym (told_state g c opened a b h s statement made next x (reply.Refused why) v refl ∙ refused_state (state_now c next.mind) s x (Some statement) why) in
@@ -85,7 +85,7 @@ module _ {D : Type 0} (g : Ghosts D) (c : Start) (opened : D) (a b : View D) (h 
         counts = refl;
       }
 
-  pub refused_told : (x : Act) (why : Refusal) → RestsBehind g a b → KeepsWorld g c opened b (telling next.e x (reply.Refused why) next.mind next.mind) → IsTold next h x (reply.Refused why)
+  pub refused_told : (x : Act) (why : Refusal) → RestsBehind g a b → KeepsWorld g c opened b (telling next.e x (reply.Refused why) next.mind next.mind) → IsActTold next h x (reply.Refused why)
   refused_told = refused_as h refl next.world.locks next.world.tables
 
   -- room for one session leaves each lock in its table

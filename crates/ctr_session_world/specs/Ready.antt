@@ -52,14 +52,15 @@ LeavesOver s txns now a b result =
     OnOk result (LeavesReady s txns now a b × StaysUnasked s txns now)
 
 -- At each moment of a turn, however it ends, a crash leaves what was hardened with some of what
--- waited. Where more pages are counted, that is so up to the growth, and in it a crash leaves what is
--- hardened then, with the old count of pages or the new one.
+-- waited. Where more pages are counted, that is so up to the growth, and in it a crash leaves what
+-- is hardened then, with the old count of pages or the new one.
 pub data LeavesFrontOrGrows {D : Type 0} (g : Ghosts D) (a b : View D) : Type 0 where
   Front : LeavesFront g a b → LeavesFrontOrGrows g a b
   Grows : (m : View D) → RestsBehind g a m → m.now.counted < MOST_PAGES → LeavesGrowing g m b
       → LeavesFrontOrGrows g a b
 
--- Nothing was logged, and what stands in the store is as it was, but that more pages may be counted.
+-- Nothing was logged, and what stands in the store is as it was, but that more pages may be
+-- counted.
 pub record StandsStill {D : Type 0} (a b : View D) : Type 0 where
   pub next : b.next ≡ a.next
   pub now : b.now ≡ record a.now { counted = b.now.counted }
@@ -68,8 +69,9 @@ pub record StandsStill {D : Type 0} (a b : View D) : Type 0 where
 abbrev pub StillOrLogs : {D : Type 0} → View D → View D → Type 0
 StillOrLogs a b = StandsStill a b ⊎ (b.next ≡ a.next + 1)
 
--- What a turn leaves of the disk, however it ends: time doesn't go back, and a fault is told where the
--- disk counts one more. Where it was answered, it logged a record, or left what stands in the store.
+-- What a turn leaves of the disk, however it ends: time doesn't go back, and a fault is told where
+-- the disk counts one more. Where it was answered, it logged a record, or left what stands in the
+-- store.
 pub record LeavesDisk {D T : Type 0} (first : Image) (g : Ghosts D) (a b : View D)
     (result : Result T StoreFault) : Type 0 where
   pub later : g.moment_of a.disk ≤ g.moment_of b.disk

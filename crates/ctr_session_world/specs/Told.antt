@@ -28,39 +28,40 @@ pub record IsNextOf {D : Type 0} (g : Ghosts D) (c : Start) (opened : D) (a b : 
   pub made_is : (progress_of (point_now c mind) s).made ≡ made
   pub at_end : e.later ≡ g.moment_of b.disk
 
--- It counts on its transaction, on that it has no page to link, and on tables.
+-- A session counts on its transaction, on that it has no page to link, and on tables.
 abbrev pub CountsOnTables : List Fact → Type 0
 CountsOnTables facts = (more : List Fact) × AreTables more × (facts ≡ facts_idle ++ more)
 
--- Between two of its statements a session counts on that, where its transaction has taken a lock, and
--- on nothing before.
+-- Between two of its statements a session counts on that, where its transaction has taken a lock,
+-- and on nothing before.
 abbrev pub IsIdleBy : Option Transaction → List Fact → Type 0
 IsIdleBy None facts = Unit {0}
 IsIdleBy (Some t) facts =
     (t.writer ≡ true → CountsOnTables facts) × (t.writer ≡ false → facts ≡ [])
 
--- so does this session
+-- Between two of its statements a session counts on its transaction and on tables, where that has
+-- taken a lock, and on nothing before.
 abbrev pub IsIdleIn : Start → Mind → ℕ → Type 0
 IsIdleIn c w s = IsIdleBy (transaction_of (state_now c w) s) (w.facts s)
 
 -- What a session counts on behind a reply, by what it counted on before: nothing where it begins,
--- the same where rows are read or the act is refused, tables alone where it has asked for its commit.
--- Of one whose transaction has ended nothing is said.
-abbrev pub CountsBehind : Reply → List Fact → List Fact → Type 0
-CountsBehind (reply.Began n) was now = now ≡ []
-CountsBehind reply.Granted was now = CountsOnTables now
-CountsBehind (reply.Rows rows) was now = now ≡ was
-CountsBehind reply.Done was now = CountsOnTables now
-CountsBehind (reply.Asked k) was now = AreTables now
-CountsBehind reply.ReadOnly was now = Unit {0}
-CountsBehind (reply.Answered k) was now = Unit {0}
-CountsBehind reply.RolledBack was now = Unit {0}
-CountsBehind reply.Released was now = Unit {0}
-CountsBehind (reply.Refused why) was now = now ≡ was
+-- the same where rows are read or the act is refused, tables alone where it has asked for its
+-- commit. Of one whose transaction has ended nothing is said.
+abbrev pub CountsBehindReply : Reply → List Fact → List Fact → Type 0
+CountsBehindReply (reply.Began n) was now = now ≡ []
+CountsBehindReply reply.Granted was now = CountsOnTables now
+CountsBehindReply (reply.Rows rows) was now = now ≡ was
+CountsBehindReply reply.Done was now = CountsOnTables now
+CountsBehindReply (reply.Asked k) was now = AreTables now
+CountsBehindReply reply.ReadOnly was now = Unit {0}
+CountsBehindReply (reply.Answered k) was now = Unit {0}
+CountsBehindReply reply.RolledBack was now = Unit {0}
+CountsBehindReply reply.Released was now = Unit {0}
+CountsBehindReply (reply.Refused why) was now = now ≡ was
 
 -- The act is told with its reply, and this is the World then. What the other sessions count on,
 -- undo's list, and the names of entries that were taken are as they were.
-pub record IsTold {D : Type 0} {g : Ghosts D} {c : Start} {opened : D} {a b : View D}
+pub record IsActTold {D : Type 0} {g : Ghosts D} {c : Start} {opened : D} {a b : View D}
     {h : SessionsHeld} {s : ℕ} {statement : Statement} {made : ℕ}
     (next : IsNextOf g c opened a b h s statement made) (now : SessionsHeld) (x : Act) (r : Reply)
     : Type 0 where
@@ -70,7 +71,7 @@ pub record IsTold {D : Type 0} {g : Ghosts D} {c : Start} {opened : D} {a b : Vi
   pub undo : mind.undo ≡ next.mind.undo
   pub names : NamesStay a.now b.now
   pub others : (q : ℕ) → (q == s) ≡ false → mind.facts q ≡ next.mind.facts q
-  pub counts : CountsBehind r (next.mind.facts s) (mind.facts s)
+  pub counts : CountsBehindReply r (next.mind.facts s) (mind.facts s)
 
 -- Nothing is told by a turn, and the act goes on at the session's next one: this is the World then.
 -- What the other sessions count on, undo's list, and the names of entries that were taken are as
@@ -89,5 +90,5 @@ pub record IsKeptOn {D : Type 0} {g : Ghosts D} {c : Start} {opened : D} {a b : 
 abbrev pub TellsOrGoesOn : {D : Type 0} {g : Ghosts D} {c : Start} {opened : D} {a b : View D}
     {h : SessionsHeld} {s : ℕ} {statement : Statement} {made : ℕ}
     → IsNextOf g c opened a b h s statement made → SessionsHeld → Act → Option Reply → Type 0
-TellsOrGoesOn next now x (Some r) = IsTold next now x r
+TellsOrGoesOn next now x (Some r) = IsActTold next now x r
 TellsOrGoesOn next now x None = IsKeptOn next now

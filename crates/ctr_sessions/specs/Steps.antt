@@ -1,5 +1,5 @@
--- The steps of sessions: what each leaves of an engine and of the numbers of its snapshots, and that
--- both then show the model's next state.
+-- The steps of sessions: what each leaves of an engine and of the numbers of its snapshots, and
+-- that both then show the model's next state.
 use Rattle.std.specs.Prelude.{◌≡◌, ℕ, ◌+◌, ◌<◌, ℤ, Bool, true, false, List, [], ◌∷◌, ◌++◌, length, Option, Some}
 use Rattle.std.specs.Ordering.{nat_cmp}
 use Rattle.std.specs.FinMap.Entries.{put, find}
@@ -98,8 +98,8 @@ RollbackShows = (low : ℕ) (old new : Begun) (state : State) (s : ℕ) (me : Tr
     → me.writer ≡ true → new.engine ≡ engine_rolled_back s session.me old.engine
     → new.since ≡ without nat_cmp s old.since → ShowsBegun low new (without_transaction s state)
 
--- Room is taken, or a start that memory was refused to is taken back: no session moves, each name has
--- its chain, and the state is the one of before.
+-- Room is taken, or a start that memory was refused to is taken back: no session moves, each name
+-- has its chain, and the state is the one of before.
 abbrev pub RoomShows : Type 0
 RoomShows = (low : ℕ) (old new : Begun) (state : State) → ShowsBegun low old state
     → new.engine.sessions ≡ old.engine.sessions

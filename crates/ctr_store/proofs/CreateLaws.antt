@@ -9,14 +9,14 @@ use Rattle.ctr_base.specs.log_Logs.{HasLog}
 use Rattle.ctr_base.specs.log_Fresh.{fresh_log, IsClosed, LogsAreReady, SameRoot}
 use Rattle.ctr_base.specs.redo_Images.{new_root, IsNewDatabase}
 use Rattle.ctr_base.proofs.redo_NewLaws.{folds_new}
-use Rattle.ctr_base.specs.Extent.{KeepsPages, AreCleared}
+use Rattle.ctr_base.specs.Extent.{KeepsPageBytes, AreCleared}
 use Rattle.ctr_base.proofs.ExtentLaws.{cleared_blank, cleared_long}
 use Rattle.ctr_store.specs.Creating.{IsNoneOrNew, IsNoneOrEmptyStore}
 
 pub none_logs : (old c : Image) → value_of RootBlock old ≡ None → SameRoot old c → IsNoneOrNew c
 none_logs old c none same = inl (ap root_value same.0 ∙ none)
 
-pub none_cleared : (n : ℕ) (mid c : Image) → value_of RootBlock mid ≡ None → KeepsPages n mid c → IsNoneOrNew c
+pub none_cleared : (n : ℕ) (mid c : Image) → value_of RootBlock mid ≡ None → KeepsPageBytes n mid c → IsNoneOrNew c
 none_cleared n mid c none keeps = inl (ap (λ (i : Image). root_value i.root) keeps.others ∙ none)
 
 pub none_one : (old one : Image) → value_of RootBlock old ≡ None → LogsAreReady old one → value_of RootBlock one ≡ None

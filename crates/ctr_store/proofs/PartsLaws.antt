@@ -22,7 +22,7 @@ use Rattle.ctr_base.specs.pool_Frame.{Frame}
 use Rattle.ctr_base.specs.pool_Pages.{PageHeld, overlaid_by}
 use Rattle.ctr_base.specs.pool_Below.{HoldsStill}
 use Rattle.ctr_base.specs.pool_Frames.{frame_of, page_of, kept_or, page_shown, after_change, since_then}
-use Rattle.ctr_base.specs.pool_Over.{IsHeld, IsOver, ShowsSame}
+use Rattle.ctr_base.specs.pool_Over.{IsHeld, IsOver, ShowsSamePages}
 use Rattle.ctr_base.proofs.pool_FrameLaws.{yes, no}
 use Rattle.ctr_base.specs.redo_Overlaid.{overlay_of, lies_on, laid_over, touches, with_record, overlaid}
 use Rattle.ctr_base.specs.redo_States.{page_limit, state_of, step, next_of, page_at}
@@ -74,11 +74,11 @@ module _ {D O : Type 0} (first : Image) (g : Ghosts D) where
   pub over_held : (fs : List Frame) (a b : Base D O) → HoldsStill (home_of g) (MayPut first g) a b → StandsQuiet first g b → IsOver (backing_of first g) fs a → IsOver (backing_of first g) fs b
   over_held fs a b holds rests over = record { at_rest = rests; held = λ p f is. is_held_same a b holds p (page_of f) f.since (over.held p f is) }
 
-  pub shows_held : (fs : List Frame) (a b : Base D O) → HoldsStill (home_of g) (MayPut first g) a b → ShowsSame (backing_of first g) fs a fs b
+  pub shows_held : (fs : List Frame) (a b : Base D O) → HoldsStill (home_of g) (MayPut first g) a b → ShowsSamePages (backing_of first g) fs a fs b
   shows_held fs a b holds q = ap (page_shown fs q) (holds.same q)
 
   -- below the pool the first of what waited became durable, or a page went home
-  pub fold_moved : (s t : Parts D O) → IsFold first g s → MovesIf first g s.base t.base → t.meta.tables ≡ s.meta.tables → ShowsSame (backing_of first g) s.pool.frames s.base t.pool.frames t.base
+  pub fold_moved : (s t : Parts D O) → IsFold first g s → MovesIf first g s.base t.base → t.meta.tables ≡ s.meta.tables → ShowsSamePages (backing_of first g) s.pool.frames s.base t.pool.frames t.base
       → IsOver (backing_of first g) t.pool.frames t.base → IsFold first g t
   fold_moved s t fold m tables shows over = record {
     over = over;
@@ -120,7 +120,7 @@ module _ {D O : Type 0} (first : Image) (g : Ghosts D) where
       omega (arith, below, next_is a quiet, ap (λ (v : PageHeld). v.lsn) (fold.current sound p))
 
   -- the same where pages and records are as they were
-  pub low_moved : (s t : Parts D O) → KeepsBase g s.base t.base → ShowsSame (backing_of first g) s.pool.frames s.base t.pool.frames t.base → AreLow g s → AreLow g t
+  pub low_moved : (s t : Parts D O) → KeepsBase g s.base t.base → ShowsSamePages (backing_of first g) s.pool.frames s.base t.pool.frames t.base → AreLow g s → AreLow g t
   low_moved s t keeps shows low p = let was = low p in let next = keeps.next in omega (arith, was, next, ap (λ (v : PageHeld). v.lsn) (shows p))
 
   -- what a crash leaves of a call, where the disk is as at another one's end

@@ -15,7 +15,7 @@ use Rattle.ctr_base.specs.meta_Kept.{TablesKept}
 use Rattle.ctr_base.specs.pool_Frame.{Frame}
 use Rattle.ctr_base.specs.pool_Pages.{PageHeld, overlaid_by}
 use Rattle.ctr_base.specs.pool_Frames.{frame_of, has_page, page_of, kept_or, page_shown, after_change, since_then}
-use Rattle.ctr_base.specs.pool_Over.{IsHeld, IsOver, ShowsSame}
+use Rattle.ctr_base.specs.pool_Over.{IsHeld, IsOver, ShowsSamePages}
 use Rattle.ctr_base.proofs.pool_FrameLaws.{yes, no}
 use Rattle.ctr_base.specs.redo_Overlaid.{overlay_of, lies_on, laid_over, touches, with_record, overlaid}
 use Rattle.ctr_base.specs.redo_Images.{records_in}
@@ -48,7 +48,7 @@ length_of (suc n) (x ∷ l) inside = let k = length_of n l (omega (arith, inside
 module _ {D O : Type 0} (first : Image) (g : Ghosts D) where
   -- ---- a call below on the way
 
-  pub redo_moved : (start : Base D O) (n : ℕ) (s t : Parts D O) → RedoesPages first g start n s → MovesIf first g s.base t.base → KeepsBase g s.base t.base → ShowsSame (backing_of first g) s.pool.frames s.base t.pool.frames t.base
+  pub redo_moved : (start : Base D O) (n : ℕ) (s t : Parts D O) → RedoesPages first g start n s → MovesIf first g s.base t.base → KeepsBase g s.base t.base → ShowsSamePages (backing_of first g) s.pool.frames s.base t.pool.frames t.base
       → IsOver (backing_of first g) t.pool.frames t.base → ((p : ℕ) → has_page p t.pool.frames ≡ true → PassesHome (next_of (stored_of g start)) p first) → RedoesPages first g start n t
   redo_moved start n s t doing m keeps shows over seen = record {
     over = over;

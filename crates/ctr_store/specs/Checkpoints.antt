@@ -21,8 +21,8 @@ heads_need at (p ∷ ps) = at_most at (2 ^ 62) p.1 >>= λ _. heads_need (at + 16
 abbrev pub checkpoint_need : Tables → Result ⊤ BadRecord
 checkpoint_need t = heads_need 25 t.opens >>= λ _. heads_need (33 + 16 * length t.opens) t.aborted
 
--- Bytes are the Checkpoint of tables: it lists the next transaction, each that is open, each that is in
--- the aborted transaction map, and the items of the secondary log.
+-- Bytes are the Checkpoint of tables: it lists the next transaction, each that is open, each that
+-- is in the aborted transaction map, and the items of the secondary log.
 pub record SpellsTables (t : Tables) (bytes : List ℕ) : Type 0 where
   pub lists : List ℕ
   pub bytes_are : bytes ≡ checkpoint_bytes t.next lists

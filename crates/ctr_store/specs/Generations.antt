@@ -26,8 +26,8 @@ use Rattle.ctr_store.specs.Store.{View, KeepsFrames, generation_size, LeavesFron
 abbrev pub IsDue : {D : Type 0} → View D → Type 0
 IsDue v = (DUE_RECORDS ≤ generation_size v) × (v.older ≡ false)
 
--- One may begin: no call was answered an error, no older one is kept, the log is durable, and there is
--- a number.
+-- One may begin: no call was answered an error, no older one is kept, the log is durable, and there
+-- is a number.
 pub record MayBegin {D : Type 0} (v : View D) : Type 0 where
   pub going : v.stopped ≡ false
   pub one : v.older ≡ false
@@ -39,8 +39,8 @@ pub record MayBegin {D : Type 0} (v : View D) : Type 0 where
 abbrev pub checkpoint_end : Tables → ℕ
 checkpoint_end t = 63 + 16 * (length t.opens + length t.aborted) + 13 * length t.items
 
--- A generation began, in the other file, with one record, behind which its log ends. Nothing waits, and
--- frames, tables and the count of pages are as they were.
+-- A generation began, in the other file, with one record, behind which its log ends. Nothing waits,
+-- and frames, tables and the count of pages are as they were.
 pub record BeginsGeneration {D : Type 0} (a b : View D) : Type 0 where
   pub older : b.older ≡ true
   pub file : b.file ≡ next_file a.file
@@ -66,16 +66,16 @@ AnswersBegin a b (Ok Begun) = BeginsGeneration a b
 AnswersBegin a b (Ok OutOfMemory) = b ≡ a
 AnswersBegin a b (Err e) = SameButDisk a b
 
--- Pages and tables are those of before, of what is hardened and of all; and that is what a crash leaves,
--- with a prefix of what waits.
+-- Pages and tables are those of before, of what is hardened and of all; and that is what a crash
+-- leaves, with a prefix of what waits.
 pub record ShowsSame {D : Type 0} (g : Ghosts D) (a b : View D) : Type 0 where
   pub hardened : b.hardened ≡ a.hardened
   pub now : b.now ≡ a.now
   pub durable : LeavesFront g b b
 
--- The disk's log has one record more, which is a Checkpoint and lists the tables: the next transaction,
--- each that is open and each that is in the aborted transaction map, with its heads, and the items of
--- the secondary log.
+-- The disk's log has one record more, which is a Checkpoint and lists the tables: the next
+-- transaction, each that is open and each that is in the aborted transaction map, with its heads,
+-- and the items of the secondary log.
 pub record AddsCheckpoint {D : Type 0} (g : Ghosts D) (a b : View D) : Type 0 where
   pub root : Root
   pub says : SaysRoot (value_of RootBlock (g.reads b.disk)) root
@@ -85,8 +85,8 @@ pub record AddsCheckpoint {D : Type 0} (g : Ghosts D) (a b : View D) : Type 0 wh
       ≡ (stored_in root (g.reads a.disk)).records ++ Checkpoint next lists ∷ []
   pub lists_are : listed next lists ≡ a.meta.tables
 
--- Where the tables don't meet the need of a Checkpoint, it is refused by the row that they fail, at the
--- place where it would stand, or for want of memory; and nothing has changed.
+-- Where the tables don't meet the need of a Checkpoint, it is refused by the row that they fail, at
+-- the place where it would stand, or for want of memory; and nothing has changed.
 abbrev pub RefusesCheckpoint : {D : Type 0} → BadRecord → View D → View D → Result Generation StoreFault → Type 0
 RefusesCheckpoint bad a b (Ok Begun) = ⊥
 RefusesCheckpoint bad a b (Ok OutOfMemory) = b ≡ a
@@ -116,8 +116,8 @@ AnswersEnd a b (Ok true) = ForgetsOlder a b
 AnswersEnd a b (Ok false) = b ≡ a
 AnswersEnd a b (Err e) = SameButDisk a b
 
--- The root of the disk names the current generation by its first number, and the records of the disk's
--- log are those from there on: the older ones are never read again.
+-- The root of the disk names the current generation by its first number, and the records of the
+-- disk's log are those from there on: the older ones are never read again.
 pub record NamesCurrent {D : Type 0} (g : Ghosts D) (a b : View D) : Type 0 where
   pub root : Root
   pub says : SaysRoot (value_of RootBlock (g.reads b.disk)) root

@@ -43,8 +43,8 @@ pub record FindsLog (image : Image) (root : Root) (f : Found) : Type 0 where
   pub goes_on : (rs : List (List ℕ)) → HoldsLog root.file root.first rs image
       → WritesBehind root.file root.first f.log image
 
--- the first check that fails is one of a record of the log, behind those that pass; the batches up to
--- and with its own have no damage
+-- the first check that fails is one of a record of the log, behind those that pass; the batches up
+-- to and with its own have no damage
 pub record IsRecordDamage (root : Root) (image : Image) (e : StoreFault) : Type 0 where
   pub given : List Visit
   pub v : Visit
@@ -85,8 +85,8 @@ IsPageDamage root image e =
     let stored = stored_in root image in
     FirstPageFails (next_of stored) image stored.records e
 
--- Damage that an opening tells is of the root, or of the file of pages; where these pass it is of the
--- log; and where all checks of that pass, of a page that the log's records are on.
+-- Damage that an opening tells is of the root, or of the file of pages; where these pass it is of
+-- the log; and where all checks of that pass, of a page that the log's records are on.
 abbrev pub IsOpenDamage : Image → StoreFault → Type 0
 IsOpenDamage image e = IsRootDamage image e ⊎ ((root : Root) × FindsRoot image (Some root)
     × (IsLogDamage root image e ⊎ (LogPasses root image × IsPageDamage root image e)))
@@ -146,8 +146,8 @@ worn_in root image =
 abbrev pub IsEmptyWithRoom : Log → Type 0
 IsEmptyWithRoom log = (log.buffered ≡ []) × (BUFFER_BYTES ≤ log.room)
 
--- Whatever the disk tells, what was opened has nothing that waits, no number is worn, no transaction
--- has more than 2^63 heads, and it counts as many pages as a root may.
+-- Whatever the disk tells, what was opened has nothing that waits, no number is worn, no
+-- transaction has more than 2^63 heads, and it counts as many pages as a root may.
 pub record IsNewlyOpened {D O : Type 0} (s : Parts D O) : Type 0 where
   pub room : IsEmptyWithRoom s.base.log
   pub next : s.base.log.first + length s.base.log.buffered < worn_at

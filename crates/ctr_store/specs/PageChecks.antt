@@ -49,8 +49,8 @@ next_in s = s.base.log.first + length s.base.log.buffered
 abbrev pub IsHomeStill : {D O : Type 0} → Ghosts D → ℕ → Parts D O → Parts D O → Type 0
 IsHomeStill g p s t = home_of g t.base p ≡ home_of g s.base p
 
--- A frame has a page with an LSN that isn't below the next one: damage says so, in the home that the
--- page's value stands in.
+-- A frame has a page with an LSN that isn't below the next one: damage says so, in the home that
+-- the page's value stands in.
 pub record IsHighFrame {D O : Type 0} (g : Ghosts D) (p : ℕ) (s : Parts D O) (e : StoreFault)
     : Type 0 where
   pub frame : Frame
@@ -60,8 +60,8 @@ pub record IsHighFrame {D O : Type 0} (g : Ghosts D) (p : ℕ) (s : Parts D O) (
       → (let home = value_place (Page p) (g.reads s.base.disk) in
       e ≡ Damaged (damage_of Pages (home + 5) (next_in s - 1) frame.lsn))
 
--- A page that no frame had was read at home: it passes its checks; or one fails, that of its number or
--- behind it that of its stamp.
+-- A page that no frame had was read at home: it passes its checks; or one fails, that of its number
+-- or behind it that of its stamp.
 abbrev pub ReadsPage : {D O T : Type 0} → Image → Ghosts D → ℕ → Parts D O → Parts D O → Result T StoreFault → Type 0
 ReadsPage first g p s t result =
     let image = g.reads t.base.disk in
@@ -69,8 +69,9 @@ ReadsPage first g p s t result =
     (IsFaultOr (λ e. StandsQuiet first g t.base
     × (IsMisnumbered (Page p) image e ⊎ (FailsHome (next_in t) p image e × IsHomeStill g p s t))))
 
--- What the bringing of a page into a frame finds: where a frame had it, it fails only by an LSN that isn't
--- below the next one; where none had it, and it is counted, it is read at home. No other page gets a frame.
+-- What the bringing of a page into a frame finds: where a frame had it, it fails only by an LSN
+-- that isn't below the next one; where none had it, and it is counted, it is read at home. No other
+-- page gets a frame.
 pub record FindsPage {D O T : Type 0} (first : Image) (g : Ghosts D) (p : ℕ) (s t : Parts D O)
     (result : Result T StoreFault) : Type 0 where
   pub hit : has_page p s.pool.frames ≡ true

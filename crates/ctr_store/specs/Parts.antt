@@ -14,7 +14,7 @@ use Rattle.ctr_base.specs.meta_Effects.{effect, tables_of}
 use Rattle.ctr_base.specs.meta_Kept.{IsLogged, MayApply, RoomLeft, opens_added, items_added}
 use Rattle.ctr_base.specs.pool_Frame.{Frame}
 use Rattle.ctr_base.specs.pool_Frames.{frame_of, page_shown, since_in}
-use Rattle.ctr_base.specs.pool_Over.{IsOver, ShowsSame}
+use Rattle.ctr_base.specs.pool_Over.{IsOver, ShowsSamePages}
 use Rattle.ctr_base.specs.redo_Overlaid.{overlay_of, overlaid}
 use Rattle.ctr_base.specs.redo_States.{state_of, step, steps}
 use Rattle.ctr_base.specs.declared.base.Base.{Base}
@@ -42,18 +42,19 @@ has_change fs f = is_some (since_in f.page fs)
 abbrev pub some_dirty : List Frame → Bool
 some_dirty fs = list_any (has_change fs) fs
 
--- the pages that frames have, each with the number of its first record that isn't home, where it has
--- one
+-- the pages that frames have, each with the number of its first record that isn't home, where it
+-- has one
 abbrev pub pages_held : List Frame → List (ℕ × Option ℕ)
 pages_held fs = map (λ f. (f.page, f.since)) fs
 
--- the number of a page's first record that isn't home, where a frame has the page with such a record
+-- the number of a page's first record that isn't home, where a frame has the page with such a
+-- record
 abbrev pub first_unsaved : ℕ → List (ℕ × Option ℕ) → Option ℕ
 first_unsaved p [] = None
 first_unsaved p (h ∷ hs) = if h.0 == p then h.1 else first_unsaved p hs
 
--- The log's buffer isn't smaller than 65,536 bytes, the frames of what waits take no more, and they are
--- spelled as those records are.
+-- The log's buffer isn't smaller than 65,536 bytes, the frames of what waits take no more, and they
+-- are spelled as those records are.
 pub record HasBuffer (log : Log) : Type 0 where
   pub size : BUFFER_BYTES ≤ buffer_size log
   pub most : length (frames log.buffered) ≤ BUFFER_BYTES
@@ -69,8 +70,9 @@ abbrev pub AreLow : {D O : Type 0} → Ghosts D → Parts D O → Type 0
 AreLow g s = (p : ℕ) → (page_shown s.pool.frames p (home_of g s.base p)).lsn
     < s.base.log.first + length s.base.log.buffered
 
--- Where the home begins in the file of pages whose value a page is: its first home where it was changed
--- in its frame since it was written home, where it isn't counted, and where no home of it is open.
+-- Where the home begins in the file of pages whose value a page is: its first home where it was
+-- changed in its frame since it was written home, where it isn't counted, and where no home of it
+-- is open.
 abbrev pub home_by : Bool → ℕ → ℕ → Image → ℕ
 home_by changed counted p image =
     if changed then home_place (Page p) First else
@@ -90,7 +92,7 @@ MayCount n = (EXTENT ≤ n) × (n ≤ MOST_PAGES)
 -- home; over that each page is as it was.
 pub record BringsOver {D O : Type 0} (first : Image) (g : Ghosts D) (s t : Parts D O) : Type 0 where
   pub moves : MovesIf first g s.base t.base
-  pub shows : ShowsSame (backing_of first g) s.pool.frames s.base t.pool.frames t.base
+  pub shows : ShowsSamePages (backing_of first g) s.pool.frames s.base t.pool.frames t.base
   pub over : IsOver (backing_of first g) t.pool.frames t.base
 
 -- A record can be logged: it is one and no Checkpoint, its overlay lies on a counted page, the

@@ -61,8 +61,8 @@ pub record PassesAs (pages at : ℕ) (t : Tables) (bytes : List ℕ) (r : Record
   pub counted : overlay_page_check pages (length bytes) (overlay_of r) ≡ Ok tt
   pub fits : needs r t ≡ Ok tt
 
--- damage of a record that stands at a place of a file: it says the byte there, as far as 64 bits tell
--- it
+-- damage of a record that stands at a place of a file: it says the byte there, as far as 64 bits
+-- tell it
 abbrev pub record_damage : File → ℕ → BadRecord → StoreFault
 record_damage file at bad =
     Damaged (damage_of file (min (at + bad.at) 18446744073709551615) bad.want bad.got)
@@ -88,7 +88,8 @@ AllPass pages vs = (i : ℕ) (v : Visit) → slice_get vs i ≡ Some v
 abbrev pub CountsPages : Image → ℕ → Type 0
 CountsPages image pages = (r : Root) → SaysRoot (value_of RootBlock image) r → pages ≡ r.pages
 
--- memory was refused; or where so many pages are counted, a record is refused behind those that pass
+-- memory was refused; or where so many pages are counted, a record is refused behind those that
+-- pass
 abbrev pub RefusesVisit : (ℕ → Type 0) → List Visit → Visit → ReadError → Type 0
 RefusesVisit counts seen v e = (e ≡ OutOfMemory)
     ⊎ ((pages : ℕ) × counts pages × AllPass pages seen

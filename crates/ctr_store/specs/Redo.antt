@@ -28,9 +28,9 @@ pub record StartsRedo {D O : Type 0} (first : Image) (g : Ghosts D) (start : Bas
     pub reads : g.reads start.disk ≡ first
     pub next : start.log.first ≡ next_of (stored_of g start)
 
--- The pool shows what the first n records make of what was held at the start. What is held now doesn't
--- matter: a page may have gone home on the way. The pages of these records have passed their checks on the
--- first image, and so has each page that has a frame.
+-- The pool shows what the first n records make of what was held at the start. What is held now
+-- doesn't matter: a page may have gone home on the way. The pages of these records have passed
+-- their checks on the first image, and so has each page that has a frame.
 pub record RedoesPages {D O : Type 0} (first : Image) (g : Ghosts D) (start : Base D O) (n : ℕ)
     (s : Parts D O) : Type 0 where
   pub over : IsOver (backing_of first g) s.pool.frames s.base

@@ -30,9 +30,9 @@ use Rattle.ctr_store.specs.RecordChecks.{record_damage}
 -- the byte where the closed gate behind the log will stand once all that waits is hardened; the
 -- number of the first record of the log's generation, and whether an older one is kept in the other
 -- file; how many bytes of frames may wait besides; how many frames have nothing to be written home,
--- whether a page is to be, and which pages the frames have, each with the number of its first record
--- that isn't home; the tables as they are kept; whether a call was answered an error, after which no
--- more can be asked.
+-- whether a page is to be, and which pages the frames have, each with the number of its first
+-- record that isn't home; the tables as they are kept; whether a call was answered an error, after
+-- which no more can be asked.
 pub record View (D : Type 0) : Type 0 where
   pub disk : D
   pub hardened : State
@@ -139,9 +139,9 @@ pub record Logs {D : Type 0} (rs : List Record) (a b : View D) : Type 0 where
   pub hardened : b.hardened ≡ steps (take j a.waiting) a.hardened
   pub now : b.now ≡ steps rs a.now
 
--- A record may be given to the log: no call was answered an error, it is a record and no Checkpoint,
--- its overlay lies on a counted page, and there is room for it and for what it adds to the tables,
--- and a number. Whether it fits the tables is no condition.
+-- A record may be given to the log: no call was answered an error, it is a record and no
+-- Checkpoint, its overlay lies on a counted page, and there is room for it and for what it adds to
+-- the tables, and a number. Whether it fits the tables is no condition.
 pub record MayLog {D : Type 0} (r : Record) (v : View D) : Type 0 where
   pub going : v.stopped ≡ false
   pub logged : IsLogged r
@@ -162,8 +162,8 @@ abbrev pub RefusesUnfit : {D T : Type 0} → Record → View D → View D → Re
 RefusesUnfit r a b result = (bad : BadRecord) → unmet_need r a ≡ Err bad
     → (result ≡ Err (record_damage a.file a.place bad)) × (b ≡ a)
 
--- A record has this number, the next one is one more, the log ends behind the record, the tables that
--- are kept are those with the record, this room is left, and as many pages are counted.
+-- A record has this number, the next one is one more, the log ends behind the record, the tables
+-- that are kept are those with the record, this room is left, and as many pages are counted.
 pub record TakesRecord {D : Type 0} (r : Record) (lsn : ℕ) (a b : View D) : Type 0 where
   pub number : lsn ≡ a.next
   pub next : b.next ≡ a.next + 1
@@ -196,22 +196,23 @@ pub record LeavesPage {D T : Type 0} (first : Image) (g : Ghosts D) (old new : V
 
 -- ---- growth
 
--- At each moment of a growth a crash leaves what was hardened, with the old count of pages or the new
--- one.
+-- At each moment of a growth a crash leaves what was hardened, with the old count of pages or the
+-- new one.
 abbrev pub LeavesGrowing : {D : Type 0} → Ghosts D → View D → View D → Type 0
 LeavesGrowing g a b = LeavesOnly g a.disk b.disk (FoldsGrown a.hardened)
 
--- More pages are counted, each of which has nothing; pages and tables are those of before, of what is
--- hardened and of all. That is durable: a crash leaves the new count with a prefix of what waits.
+-- More pages are counted, each of which has nothing; pages and tables are those of before, of what
+-- is hardened and of all. That is durable: a crash leaves the new count with a prefix of what
+-- waits.
 pub record GrowsByExtent {D : Type 0} (g : Ghosts D) (a b : View D) : Type 0 where
   pub hardened : b.hardened ≡ counting (grown a.now.counted) a.hardened
   pub now : b.now ≡ counting (grown a.now.counted) a.now
   pub blank : AreBlank a.now.counted b.now.counted b.now
   pub durable : LeavesFront g b b
 
--- All but the disk, what it folds to, and whether a call was answered an error is as it was. No call
--- of the disk went past the last place of a file. More pages are counted behind an Ok alone, and
--- behind an error no more can be asked.
+-- All but the disk, what it folds to, and whether a call was answered an error is as it was. No
+-- call of the disk went past the last place of a file. More pages are counted behind an Ok alone,
+-- and behind an error no more can be asked.
 pub record CountsUp {D T : Type 0} (g : Ghosts D) (a b : View D) (result : Result T StoreFault)
     : Type 0 where
   pub same : b ≡ record a { disk = b.disk; hardened = b.hardened; now = b.now; stopped = b.stopped }

@@ -40,8 +40,8 @@ view_in g a = view_of g a.parts a.stopped
 
 -- What it shows is the fold of the records on the disk and behind them those that wait, where no
 -- call was answered an error; the log's buffer is there, of which what waits takes a part; as many
--- pages are counted as may be; and the numbers that the tables count with are bound by the next LSN,
--- which is below 2^63.
+-- pages are counted as may be; and the numbers that the tables count with are bound by the next
+-- LSN, which is below 2^63.
 pub record IsStore {D O : Type 0} (first : Image) (g : Ghosts D) (a : Inside D O) : Type 0 where
   pub fold : IsTrue g.tells → a.stopped ≡ false → IsFold first g a.parts
   pub buffer : HasBuffer a.parts.base.log

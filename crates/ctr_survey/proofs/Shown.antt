@@ -19,9 +19,9 @@ use Rattle.ctr_record_laws.proofs.Gathering.{matches, is_match, match_key, match
 use Rattle.ctr_reading.specs.ctr_views.Scanning.{AreScanned}
 use Rattle.ctr_reading.proofs.views_Scanning.{scanned_alike}
 use Rattle.ctr_reading.specs.declared.sight.Sight.{Sight}
-use Rattle.ctr_reading.specs.Reading.{AreShown, sees}
+use Rattle.ctr_reading.specs.Reading.{AreShown, sight_sees}
 use Rattle.ctr_survey.specs.declared.entries.MadeBy.{MadeBy}
-use Rattle.ctr_survey.specs.Standing.{made_by, stands_made, CountsEntry, SeesCommitted}
+use Rattle.ctr_survey.specs.Standing.{title_made_by, stands_made, CountsEntry, SeesCommitted}
 
 module _ (test : ℕ → Bool) (area : Area) (e : ℕ) (keyed : AreKeyed area) where
   abbrev chains : List (ℤ × List RowVersion)
@@ -52,19 +52,19 @@ module _ (test : ℕ → Bool) (area : Area) (e : ℕ) (keyed : AreKeyed area) w
 
 -- ---- whether a table stands
 
-by_title : (test : ℕ → Bool) (title : Title) → is_standing test title ≡ stands_made test (made_by title)
+by_title : (test : ℕ → Bool) (title : Title) → is_standing test title ≡ stands_made test (title_made_by title)
 by_title test title = elim (is_live title) as (λ b. (b && (test title.creator && not (test title.dropper))) ≡ stands_made test (cond b (Some (record { creator = title.creator; dropper = title.dropper })) None)) [
   | true ↦ refl
   | false ↦ refl
 ]
 
 -- a table stands where who reads by the tables of the store sees who made it, and not who dropped it
-pub told_standing : (tables kept : Tables) (sight : Sight) (title : Title) (made : Option MadeBy) (stands : Bool) → kept ≡ tables → made ≡ made_by title → stands ≡ stands_made (sees kept sight) made
-    → is_standing (sees tables sight) title ≡ stands
+pub told_standing : (tables kept : Tables) (sight : Sight) (title : Title) (made : Option MadeBy) (stands : Bool) → kept ≡ tables → made ≡ title_made_by title → stands ≡ stands_made (sight_sees kept sight) made
+    → is_standing (sight_sees tables sight) title ≡ stands
 told_standing tables kept sight title made stands same is told =
-    by_title (sees tables sight) title ∙ ap (stands_made (sees tables sight)) (sym is) ∙ sym (ap (λ (t : Tables). stands_made (sees t sight) made) same) ∙ sym told
+    by_title (sight_sees tables sight) title ∙ ap (stands_made (sight_sees tables sight)) (sym is) ∙ sym (ap (λ (t : Tables). stands_made (sight_sees t sight) made) same) ∙ sym told
 
 -- what is counted by who sees all that is committed
-pub counted_committed : (tables : Tables) (sight : Sight) (area : Area) (e : ℕ) (found : Option ℕ) → SeesCommitted tables sight → CountsEntry (sees tables sight) area e found → CountsEntry (is_committed_in tables) area e found
+pub counted_committed : (tables : Tables) (sight : Sight) (area : Area) (e : ℕ) (found : Option ℕ) → SeesCommitted tables sight → CountsEntry (sight_sees tables sight) area e found → CountsEntry (is_committed_in tables) area e found
 counted_committed tables sight area e found seen counts =
-    let alike : sees tables sight ≡ is_committed_in tables = λ i x. seen x i in subst (λ (test : ℕ → Bool). CountsEntry test area e found) alike counts
+    let alike : sight_sees tables sight ≡ is_committed_in tables = λ i x. seen x i in subst (λ (test : ℕ → Bool). CountsEntry test area e found) alike counts

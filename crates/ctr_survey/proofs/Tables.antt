@@ -16,7 +16,7 @@ use Rattle.ctr_area.specs.Images.{entry_numbers, image_rows, is_live, is_standin
 use Rattle.ctr_area.specs.Sound.{IsOneOf}
 use Rattle.ctr_survey.specs.declared.counting.Counts.{Counts}
 use Rattle.ctr_survey.specs.Surveying.{row_count, counted_to_end}
-use Rattle.ctr_survey.specs.Standing.{AreCounts, CountsEntry, with_entry}
+use Rattle.ctr_survey.specs.Standing.{AreCounts, CountsEntry, with_entry_counts}
 
 -- ---- one table more
 
@@ -35,11 +35,11 @@ put_new name t (e ∷ es) none = by (name_cmp name e.0) none (put_new name t es)
     by Greater none behind = let rest = behind none in record { tables = ap (λ n. suc n) rest.tables; rows = omega (arith, rest.rows) }
 
 -- an entry has one table at most
-one_more : (n : ℕ) (found : Option ℕ) (counts : Counts) → counts.tables ≤ n → (with_entry found counts).tables ≤ n + 1
+one_more : (n : ℕ) (found : Option ℕ) (counts : Counts) → counts.tables ≤ n → (with_entry_counts found counts).tables ≤ n + 1
 one_more n None counts few = omega (arith, few)
 one_more n (Some rows) counts few = omega (arith, few)
 
-pub few_more : (n : ℕ) (found : Option ℕ) (counts new : Counts) → new ≡ with_entry found counts → counts.tables ≤ n → new.tables ≤ n + 1
+pub few_more : (n : ℕ) (found : Option ℕ) (counts new : Counts) → new ≡ with_entry_counts found counts → counts.tables ≤ n → new.tables ≤ n + 1
 few_more n found counts new is few = subst (λ (x : Counts). x.tables ≤ n + 1) (sym is) (one_more n found counts few)
 
 -- ---- the entries that are left
@@ -116,7 +116,7 @@ module _ (test : ℕ → Bool) (area : Area) where
         ∙ behind)
         (λ isnt. ap (λ b. find name_cmp (name_of e) (cond b (put name_cmp (name_of k) (table_in test area k) rest) rest)) isnt ∙ behind)
 
-    one_counted : (e : ℕ) (found : Option ℕ) (counts : Counts) → e < 32 → CountsEntry test area e found → IsCounted e counts → IsCounted (e + 1) (with_entry found counts)
+    one_counted : (e : ℕ) (found : Option ℕ) (counts : Counts) → e < 32 → CountsEntry test area e found → IsCounted e counts → IsCounted (e + 1) (with_entry_counts found counts)
     one_counted e None counts few isnt are =
         let same = one_left e few ∙ ap (λ b. cond b (put name_cmp (name_of e) (table_in test area e) (left_from (e + 1))) (left_from (e + 1))) isnt in
         record {
@@ -139,5 +139,5 @@ module _ (test : ℕ → Bool) (area : Area) where
         }
 
     -- and so with counts that are told to be those with this entry
-    pub told_counted : (e : ℕ) (found : Option ℕ) (counts new : Counts) → e < 32 → new ≡ with_entry found counts → CountsEntry test area e found → IsCounted e counts → IsCounted (e + 1) new
+    pub told_counted : (e : ℕ) (found : Option ℕ) (counts new : Counts) → e < 32 → new ≡ with_entry_counts found counts → CountsEntry test area e found → IsCounted e counts → IsCounted (e + 1) new
     told_counted e found counts new few is entry are = subst (IsCounted (e + 1)) (sym is) (one_counted e found counts few entry are)

@@ -11,7 +11,7 @@ use Rattle.ctr_area.specs.Areas.{Title, Area}
 use Rattle.ctr_area.specs.Reading.{title_of}
 use Rattle.ctr_area.specs.Images.{is_committed_in, is_live, is_standing, rows_of_entry, image_rows}
 use Rattle.ctr_reading.specs.declared.sight.Sight.{Sight}
-use Rattle.ctr_reading.specs.Reading.{sees}
+use Rattle.ctr_reading.specs.Reading.{sight_sees}
 use Rattle.ctr_survey.specs.declared.entries.MadeBy.{MadeBy}
 use Rattle.ctr_survey.specs.declared.counting.Counts.{Counts}
 use Rattle.ctr_survey.specs.declared.noting.Noted.{Noted}
@@ -20,8 +20,8 @@ use Rattle.ctr_survey.specs.Surveying.{row_count, counted_to_end}
 -- ---- an entry
 
 -- who made and dropped the live table that a title is, where it is one
-abbrev pub made_by : Title → Option MadeBy
-made_by title =
+abbrev pub title_made_by : Title → Option MadeBy
+title_made_by title =
     if is_live title then Some (record { creator = title.creator; dropper = title.dropper })
     else None
 
@@ -30,7 +30,7 @@ abbrev pub MadeSaid : ℕ → ℕ → List ℕ → Result (Option MadeBy) BadRec
 MadeSaid counted n page (Err bad) = entry_check counted (ENTRY_SIZE * n) page ≡ Err bad
 MadeSaid counted n page (Ok made) =
     (entry_check counted (ENTRY_SIZE * n) page ≡ Ok tt)
-    × (made ≡ made_by (title_of (entry_at n page)))
+    × (made ≡ title_made_by (title_of (entry_at n page)))
 
 -- where there is such a table, who made it passes the test, and who dropped it doesn't
 abbrev pub stands_made : (ℕ → Bool) → Option MadeBy → Bool
@@ -41,7 +41,7 @@ stands_made test (Some made) = test made.creator && not (test made.dropper)
 
 -- Those are seen that are committed, and nobody else.
 abbrev pub SeesCommitted : Tables → Sight → Type 0
-SeesCommitted tables sight = (x : ℕ) → sees tables sight x ≡ is_committed_in tables x
+SeesCommitted tables sight = (x : ℕ) → sight_sees tables sight x ≡ is_committed_in tables x
 
 -- ---- what is counted
 
@@ -52,9 +52,9 @@ CountsEntry test area e (Some n) = (is_standing test (area.title e) ≡ true)
     × (n ≡ length (entries_seen test (rows_of_entry area e)))
 
 -- the counts with those of one more entry
-abbrev pub with_entry : Option ℕ → Counts → Counts
-with_entry None counts = counts
-with_entry (Some n) counts = record {
+abbrev pub with_entry_counts : Option ℕ → Counts → Counts
+with_entry_counts None counts = counts
+with_entry_counts (Some n) counts = record {
   tables = counts.tables + 1;
   rows = counted_to_end (counts.rows + n);
 }

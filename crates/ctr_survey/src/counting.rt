@@ -5,8 +5,8 @@ ghost use Rattle.ctr_area.specs.Images.{is_committed_in};
 ghost use Rattle.ctr_record_effects.specs.States.{area_in};
 ghost use Rattle.ctr_record_effects.specs.Standing.{HasSoundArea, IsDatabaseState};
 ghost use Rattle.ctr_walk.specs.Damage.{ReadsPages};
-ghost use Rattle.ctr_reading.specs.Reading.{as_told, sees, IsDiskOrMemory};
-ghost use Rattle.ctr_survey.specs.Standing.{CountsEntry, AreCounts, SeesCommitted, with_entry};
+ghost use Rattle.ctr_reading.specs.Reading.{as_told, sight_sees, IsDiskOrMemory};
+ghost use Rattle.ctr_survey.specs.Standing.{CountsEntry, AreCounts, SeesCommitted, with_entry_counts};
 
 use crate::entries::{made, stands};
 use ctr_base::Origin;
@@ -29,7 +29,7 @@ impl Counts {
     /// The counts with those of one more entry, of which a table may stand with so many rows.
     fn with(self, found: Option<u64>) -> Counts
         requires { self.tables < ENTRIES }
-        ensures { result ≡ with_entry found self }
+        ensures { result ≡ with_entry_counts found self }
     {
         match found {
             None => self,
@@ -50,7 +50,7 @@ fn rows_standing<D: Disk, O: Origin>(
 ) -> Result<Option<u64>, ReadRefusal>
     requires going { store.old.stopped ≡ false }
     requires there { entry < 32 }
-    ensures counts { WhereSound O.first D.Disk (HasSoundArea store.old.now → IfOk result (CountsEntry (sees store.old.now.tables sight.now) (area_in store.old.now) entry)) }
+    ensures counts { WhereSound O.first D.Disk (HasSoundArea store.old.now → IfOk result (CountsEntry (sight_sees store.old.now.tables sight.now) (area_in store.old.now) entry)) }
     ensures refused { WhereSound O.first D.Disk (IsDatabaseState store.old.now → IfErr result IsDiskOrMemory) }
     ensures leaves { ReadsPages O.first D.Disk store.old store.new (as_told result) }
 {

@@ -9,8 +9,8 @@ ghost use Rattle.ctr_record_effects.specs.Standing.{IsDatabaseState};
 ghost use Rattle.ctr_walk.specs.Damage.{searched, EndsOnPage, ReadsPages};
 ghost use Rattle.ctr_reading.specs.catalog_Finding.{checks_at};
 ghost use Rattle.ctr_reading.specs.catalog_Columns.{EndsChecked};
-ghost use Rattle.ctr_reading.specs.Reading.{sees};
-ghost use Rattle.ctr_survey.specs.Standing.{made_by, MadeSaid, stands_made};
+ghost use Rattle.ctr_reading.specs.Reading.{sight_sees};
+ghost use Rattle.ctr_survey.specs.Standing.{title_made_by, MadeSaid, stands_made};
 
 use ctr_base::Origin;
 use ctr_disk::{Disk, StoreFault};
@@ -71,7 +71,7 @@ fn made_found<D: Disk, O: Origin>(
     requires going { store.old.stopped ≡ false }
     requires there { entry < 32 }
     ensures ends { WhereSound O.first D.Disk (IfOk (searched result) (EndsChecked (checks_at store.old.now.counted (pages_in store.old.now) entry) entry)) }
-    ensures tells { WhereSound O.first D.Disk (IfOk result (λ made. made ≡ made_by ((area_in store.old.now).title entry))) }
+    ensures tells { WhereSound O.first D.Disk (IfOk result (λ made. made ≡ title_made_by ((area_in store.old.now).title entry))) }
     ensures leaves { LeavesPage O.first D.Disk store.old store.new (searched result) }
 {
     store.counts_pages();
@@ -86,7 +86,7 @@ pub(crate) fn made<D: Disk, O: Origin>(
 ) -> Result<Option<MadeBy>, StoreFault>
     requires going { store.old.stopped ≡ false }
     requires there { entry < 32 }
-    ensures tells { WhereSound O.first D.Disk (IfOk result (λ made. made ≡ made_by ((area_in store.old.now).title entry))) }
+    ensures tells { WhereSound O.first D.Disk (IfOk result (λ made. made ≡ title_made_by ((area_in store.old.now).title entry))) }
     ensures refused { WhereSound O.first D.Disk (IsDatabaseState store.old.now → IfErr result (λ e. e ≡ Fault)) }
     ensures leaves { ReadsPages O.first D.Disk store.old store.new result }
 {
@@ -96,7 +96,7 @@ pub(crate) fn made<D: Disk, O: Origin>(
 }
 
 fn is_there(meta: &Meta, sight: &Sight, made: MadeBy) -> bool
-    ensures { result ≡ stands_made (sees meta.now.tables sight.now) (Some made) }
+    ensures { result ≡ stands_made (sight_sees meta.now.tables sight.now) (Some made) }
 {
     is_seen(meta, sight.snapshot, sight.me, made.creator)
         && !is_seen(meta, sight.snapshot, sight.me, made.dropper)
@@ -104,7 +104,7 @@ fn is_there(meta: &Meta, sight: &Sight, made: MadeBy) -> bool
 
 /// Whether a table stands for who reads: it sees who made it, and not who dropped it.
 pub(crate) fn stands(meta: &Meta, sight: &Sight, made: Option<MadeBy>) -> bool
-    ensures { result ≡ stands_made (sees meta.now.tables sight.now) made }
+    ensures { result ≡ stands_made (sight_sees meta.now.tables sight.now) made }
 {
     match made {
         None => false,

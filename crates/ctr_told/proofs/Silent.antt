@@ -12,7 +12,7 @@ use Rattle.ctr_rollback.specs.kept_Walk.{Mind, with_facts}
 use Rattle.ctr_rollback.specs.kept_Turns.{Start, KeepsRun, InTransaction, Carries, carrying}
 use Rattle.ctr_rollback.proofs.kept_Tables.{UsesStill}
 use Rattle.ctr_rollback.specs.stops_Pages.{CountsOnNoMore}
-use Rattle.ctr_told.specs.Turning.{IsIdle}
+use Rattle.ctr_told.specs.Turning.{IdleCountsOn}
 use Rattle.ctr_told.proofs.Idle.{carried_more, idle_more, idle_open, idle_none}
 
 -- to count on the same is to count on no other facts
@@ -31,7 +31,7 @@ carries_its c now s site w keeps seat = record {
 }
 
 -- between two statements, in whatever transaction
-pub carries_idle : (c : Start) (now s : ℕ) (site : Site) (w : Mind) → KeepsRun c now site w → (seat : InTransaction c w s) (more : List Fact) → IsIdle seat.session.me more (w.facts s) → (u : Transaction) → UsesStill seat.t u → Carries seat.session.me u (w.facts s) site
+pub carries_idle : (c : Start) (now s : ℕ) (site : Site) (w : Mind) → KeepsRun c now site w → (seat : InTransaction c w s) (more : List Fact) → IdleCountsOn seat.session.me more (w.facts s) → (u : Transaction) → UsesStill seat.t u → Carries seat.session.me u (w.facts s) site
 carries_idle c now s site w keeps seat more idle u uses = ⊎_elim
     (λ some. let held = keeps.scene.carried.held s seat.session in
     let its = idle_more more (w.facts s) some.2 in

@@ -37,7 +37,7 @@ abbrev pub FindsIt : {D : Type 0} {g : Ghosts D} {c : Start} {opened : D} {a : V
 FindsIt {D} {g} {c} {opened} {a} {w} is e = IsEntryFound
     (finds (xids_of a.now.tables w.run.commits) is.seat.session) is.name (area_in a.now) e
 
--- These are among its tables, but not the one of an entry.
+-- Facts are of a session's tables, but not of the one of an entry.
 pub record AreOthers (e : ℕ) (more rest : List Fact) : Type 0 where
   pub tables : AreTables rest
   pub among : (f : Fact) → IsAmong f rest → IsAmong f more

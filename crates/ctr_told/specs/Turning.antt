@@ -18,13 +18,13 @@ facts_idle = IsOpen ∷ HasNoPageBut [] ∷ []
 
 -- What it counts on then: that, and tables in which it has locks; or nothing, where it has no
 -- number yet.
-abbrev pub IsIdle : ℕ → List Fact → List Fact → Type 0
-IsIdle me more facts = ((0 < me) × AreTables more × (facts ≡ facts_idle ++ more))
+abbrev pub IdleCountsOn : ℕ → List Fact → List Fact → Type 0
+IdleCountsOn me more facts = ((0 < me) × AreTables more × (facts ≡ facts_idle ++ more))
     ⊎ ((me ≡ 0) × (facts ≡ []))
 
 -- A turn of a session in a transaction, in a World: it tells an act of the session's statement, at
 -- the moment at which it ends.
-pub record TellsOf {D : Type 0} (g : Ghosts D) (c : Start) (opened : D) (a b : View D) (w : Mind)
+pub record TellsTurnOf {D : Type 0} (g : Ghosts D) (c : Start) (opened : D) (a b : View D) (w : Mind)
     (s : ℕ) : Type 0 where
   pub keeps : KeepsWorld g c opened a w
   pub seat : InTransaction c w s
@@ -32,7 +32,7 @@ pub record TellsOf {D : Type 0} (g : Ghosts D) (c : Start) (opened : D) (a b : V
   pub at_end : e.later ≡ g.moment_of b.disk
 
 -- A turn of a session that is in no transaction.
-pub record TellsOutside {D : Type 0} (g : Ghosts D) (c : Start) (opened : D) (a b : View D)
+pub record TellsTurnOutside {D : Type 0} (g : Ghosts D) (c : Start) (opened : D) (a b : View D)
     (w : Mind) (s : ℕ) : Type 0 where
   pub keeps : KeepsWorld g c opened a w
   pub none : transaction_of (state_now c w) s ≡ None

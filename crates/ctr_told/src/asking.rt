@@ -13,7 +13,7 @@ ghost use Rattle.ctr_rollback.specs.kept_Turns.{Start, InTransaction, MayCome, t
 ghost use Rattle.ctr_rollback.specs.stops_World.{KeepsWorld};
 ghost use Rattle.ctr_rollback.specs.page_turns_Acts.{ActsBy};
 ghost use Rattle.ctr_rollback.specs.page_turns_Turns.{LogsAtRest};
-ghost use Rattle.ctr_told.specs.Turning.{facts_idle, TellsOf};
+ghost use Rattle.ctr_told.specs.Turning.{facts_idle, TellsTurnOf};
 
 use crate::counting::a_session_may_count_on_what_holds;
 use crate::entries::an_entry_with_a_record_is_kept;
@@ -27,7 +27,7 @@ use ctr_views::{what_is_done_stays, what_is_held_pays};
 pub fn a_commit_that_is_asked_for_is_told<D: Disk>()
     ensures owed { (c : Start) (opened : D) (a : View D) (w : Mind) (s : ℕ) (seat : InTransaction c w s) (more : List Fact) → KeepsWorld D.Disk c opened a w → w.facts s ≡ facts_idle ++ more
         → Owes seat.session.me Commits (site_of a.now) }
-    ensures told { (c : Start) (opened : D) (a b : View D) (w : Mind) (s : ℕ) (tells : TellsOf D.Disk c opened a b w s) (more : List Fact) → 0 < tells.seat.session.me → AreTables more → ((f : Fact) → IsAmong f more → IsAmong f (w.facts s))
+    ensures told { (c : Start) (opened : D) (a b : View D) (w : Mind) (s : ℕ) (tells : TellsTurnOf D.Disk c opened a b w s) (more : List Fact) → 0 < tells.seat.session.me → AreTables more → ((f : Fact) → IsAmong f more → IsAmong f (w.facts s))
         → MayCome c w tells.e act.Ask (reply.Asked (length (state_now c w).asked + 1)) → ActsBy tells.seat.session.me Commits a.now b.now → LogsAtRest D.Disk a b
         → KeepsWorld D.Disk c opened b (telling tells.e act.Ask (reply.Asked (length (state_now c w).asked + 1)) w (record (carrying s more w) { run = (asked_scene tells.seat).run })) }
 {

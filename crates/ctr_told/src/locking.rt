@@ -11,7 +11,7 @@ ghost use Rattle.ctr_rollback.specs.kept_Turns.{Start, MayCome, telling, carryin
 ghost use Rattle.ctr_rollback.specs.stops_World.{KeepsWorld};
 ghost use Rattle.ctr_rollback.specs.page_turns_Acts.{ActsBy};
 ghost use Rattle.ctr_rollback.specs.page_turns_Turns.{LogsAtRest, RestsBehind};
-ghost use Rattle.ctr_told.specs.Turning.{facts_idle, TellsOf};
+ghost use Rattle.ctr_told.specs.Turning.{facts_idle, TellsTurnOf};
 
 use crate::entries::an_entry_alone_is_kept;
 use ctr_disk::Disk;
@@ -23,7 +23,7 @@ use ctr_views::{an_action_gives_its_fact, what_is_done_stays};
 
 /// The first Lock of a session draws its number, by one record, and keeps the World.
 pub fn a_first_lock_is_told<D: Disk>()
-    ensures { (c : Start) (opened : D) (a b : View D) (w : Mind) (s : ℕ) (tells : TellsOf D.Disk c opened a b w s) → tells.seat.session.me ≡ 0
+    ensures { (c : Start) (opened : D) (a b : View D) (w : Mind) (s : ℕ) (tells : TellsTurnOf D.Disk c opened a b w s) → tells.seat.session.me ≡ 0
         → MayCome c w tells.e act.Lock reply.Granted → ActsBy a.now.tables.next Begins a.now b.now → LogsAtRest D.Disk a b
         → KeepsWorld D.Disk c opened b (telling tells.e act.Lock reply.Granted w (drawn_mind s tells.seat.session a.now.tables.next facts_idle w)) }
 {
@@ -37,7 +37,7 @@ pub fn a_first_lock_is_told<D: Disk>()
 
 /// A later one logs nothing.
 pub fn a_lock_is_told<D: Disk>()
-    ensures { (c : Start) (opened : D) (a b : View D) (w : Mind) (s : ℕ) (tells : TellsOf D.Disk c opened a b w s) (more : List Fact) → 0 < tells.seat.session.me → AreTables more → w.facts s ≡ facts_idle ++ more
+    ensures { (c : Start) (opened : D) (a b : View D) (w : Mind) (s : ℕ) (tells : TellsTurnOf D.Disk c opened a b w s) (more : List Fact) → 0 < tells.seat.session.me → AreTables more → w.facts s ≡ facts_idle ++ more
         → MayCome c w tells.e act.Lock reply.Granted → RestsBehind D.Disk a b
         → KeepsWorld D.Disk c opened b (telling tells.e act.Lock reply.Granted w (carrying s (facts_idle ++ more) w)) }
 {

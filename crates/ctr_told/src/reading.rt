@@ -13,7 +13,7 @@ ghost use Rattle.ctr_rollback.specs.kept_Walk.{Mind};
 ghost use Rattle.ctr_rollback.specs.kept_Turns.{Start, Telling, MayCome, telling, begun_mind, gone_mind, state_now};
 ghost use Rattle.ctr_rollback.specs.stops_World.{KeepsWorld};
 ghost use Rattle.ctr_rollback.specs.page_turns_Turns.{RestsBehind};
-ghost use Rattle.ctr_told.specs.Turning.{TellsOf, TellsOutside, IsIdle};
+ghost use Rattle.ctr_told.specs.Turning.{TellsTurnOf, TellsTurnOutside, IdleCountsOn};
 
 use crate::entries::an_entry_alone_is_kept;
 use ctr_disk::Disk;
@@ -23,7 +23,7 @@ use ctr_rollback::{
 
 /// A session begins a transaction: its snapshot is of the commits that are answered.
 pub fn a_begin_is_told<D: Disk>()
-    ensures { (c : Start) (opened : D) (a b : View D) (w : Mind) (s : ℕ) (tells : TellsOutside D.Disk c opened a b w s)
+    ensures { (c : Start) (opened : D) (a b : View D) (w : Mind) (s : ℕ) (tells : TellsTurnOutside D.Disk c opened a b w s)
         → MayCome c w tells.e act.Begin (reply.Began (state_now c w).answered) → RestsBehind D.Disk a b
         → KeepsWorld D.Disk c opened b (telling tells.e act.Begin (reply.Began (state_now c w).answered) w (begun_mind s (site_of a.now) (state_now c w).answered w)) }
 {
@@ -33,7 +33,7 @@ pub fn a_begin_is_told<D: Disk>()
 
 /// Rows that are read leave the session what it counts on between two statements.
 pub fn rows_that_are_read_are_told<D: Disk>()
-    ensures { (c : Start) (opened : D) (a b : View D) (w : Mind) (s : ℕ) (tells : TellsOf D.Disk c opened a b w s) (rows : Rows) (more : List Fact) → IsIdle tells.seat.session.me more (w.facts s)
+    ensures { (c : Start) (opened : D) (a b : View D) (w : Mind) (s : ℕ) (tells : TellsTurnOf D.Disk c opened a b w s) (rows : Rows) (more : List Fact) → IdleCountsOn tells.seat.session.me more (w.facts s)
         → MayCome c w tells.e act.Read (reply.Rows rows) → RestsBehind D.Disk a b → KeepsWorld D.Disk c opened b (telling tells.e act.Read (reply.Rows rows) w w) }
 {
     locks_and_reads_are_kept();
@@ -42,9 +42,9 @@ pub fn rows_that_are_read_are_told<D: Disk>()
 
 /// A refused act changes nothing but the tape, whether the session is in a transaction or in none.
 pub fn a_refusal_is_told<D: Disk>()
-    ensures inside { (c : Start) (opened : D) (a b : View D) (w : Mind) (s : ℕ) (tells : TellsOf D.Disk c opened a b w s) (x : Act) (why : Refusal)
+    ensures inside { (c : Start) (opened : D) (a b : View D) (w : Mind) (s : ℕ) (tells : TellsTurnOf D.Disk c opened a b w s) (x : Act) (why : Refusal)
         → MayCome c w tells.e x (reply.Refused why) → RestsBehind D.Disk a b → KeepsWorld D.Disk c opened b (telling tells.e x (reply.Refused why) w w) }
-    ensures outside { (c : Start) (opened : D) (a b : View D) (w : Mind) (s : ℕ) (tells : TellsOutside D.Disk c opened a b w s) (x : Act) (why : Refusal)
+    ensures outside { (c : Start) (opened : D) (a b : View D) (w : Mind) (s : ℕ) (tells : TellsTurnOutside D.Disk c opened a b w s) (x : Act) (why : Refusal)
         → MayCome c w tells.e x (reply.Refused why) → RestsBehind D.Disk a b → KeepsWorld D.Disk c opened b (telling tells.e x (reply.Refused why) w w) }
 {
     locks_and_reads_are_kept();
@@ -54,9 +54,9 @@ pub fn a_refusal_is_told<D: Disk>()
 
 /// The transaction of a session without a number ends at its COMMIT or its ROLLBACK.
 pub fn a_reader_that_ends_is_told<D: Disk>()
-    ensures commit { (c : Start) (opened : D) (a b : View D) (w : Mind) (s : ℕ) (tells : TellsOf D.Disk c opened a b w s) → tells.seat.session.me ≡ 0
+    ensures commit { (c : Start) (opened : D) (a b : View D) (w : Mind) (s : ℕ) (tells : TellsTurnOf D.Disk c opened a b w s) → tells.seat.session.me ≡ 0
         → MayCome c w tells.e act.Ask reply.ReadOnly → RestsBehind D.Disk a b → KeepsWorld D.Disk c opened b (telling tells.e act.Ask reply.ReadOnly w (gone_mind s w)) }
-    ensures rollback { (c : Start) (opened : D) (a b : View D) (w : Mind) (s : ℕ) (tells : TellsOf D.Disk c opened a b w s) → tells.seat.session.me ≡ 0
+    ensures rollback { (c : Start) (opened : D) (a b : View D) (w : Mind) (s : ℕ) (tells : TellsTurnOf D.Disk c opened a b w s) → tells.seat.session.me ≡ 0
         → MayCome c w tells.e act.Rollback reply.RolledBack → RestsBehind D.Disk a b → KeepsWorld D.Disk c opened b (telling tells.e act.Rollback reply.RolledBack w (gone_mind s w)) }
 {
     a_reader_ends();

@@ -16,7 +16,7 @@ use Rattle.ctr_database.specs.ctr_run.ctr_world.Opened.{CanRun, IsRunLine}
 use Rattle.ctr_database.specs.ctr_run.ctr_world.totals_Totals.{no_totals}
 use Rattle.ctr_database.specs.ctr_run.Counting.{CountsAsked}
 use Rattle.ctr_database.specs.ctr_run.Promises.{IsRunOf}
-use Rattle.ctr_database.specs.ctr_run.Running.{EndsAsAsked, EndsFor, RunsInOrder, RunsNone, RunsOver}
+use Rattle.ctr_database.specs.ctr_run.Running.{EndsAsAsked, EndsRunFor, RunsInOrder, RunsNone, RunsOver}
 use Rattle.ctr_database.specs.ctr_run.declared.ran.Ran.{Ran}
 use Rattle.ctr_database.specs.ctr_run.declared.ran.RunEnd.TheVariants as run
 use Rattle.ctr_database.proofs.ctr_run.Ends.{untouched_in_order, untouched_over}

@@ -9,7 +9,7 @@ use Rattle.ctr_record_effects.specs.Standing.{StandsForDatabase}
 use Rattle.ctr_store.specs.Opening.{IsUndamaged}
 use Rattle.ctr_database.specs.ctr_run.ctr_world.Ended.{PassesOpening, RefusesWith, RefusesWorld}
 use Rattle.ctr_database.specs.ctr_run.declared.ran.RunEnd.TheVariants.{Finished, Unopened}
-use Rattle.ctr_database.specs.ctr_run.Running.{EndsFor, RunsNone}
+use Rattle.ctr_database.specs.ctr_run.Running.{EndsRunFor, RunsNone}
 use Rattle.ctr_database.proofs.ctr_run.Ends.{as_asked}
 use Rattle.ctr_top.specs.declared.outcome.Outcome.{Outcome}
 use Rattle.ctr_top.specs.declared.ending.Ending.TheVariants as ending
@@ -29,7 +29,7 @@ module _ {D : Type 0} (g : Ghosts D) (old : D) (o : Outcome D) (none : IsUnrun o
   counted is faults passes = record {
     none = none;
     left = left_told;
-    causes = record { end = Finished; is = is; why = subst (λ d. EndsFor g old d Finished) (sym same) (faults, passes); none = λ error unopened. ran_none; asked = λ base told stands. tt };
+    causes = record { end = Finished; is = is; why = subst (λ d. EndsRunFor g old d Finished) (sym same) (faults, passes); none = λ error unopened. ran_none; asked = λ base told stands. tt };
     unbegun = λ stop stopped. absurd (cc stopped);
   }
 
@@ -37,7 +37,7 @@ module _ {D : Type 0} (g : Ghosts D) (old : D) (o : Outcome D) (none : IsUnrun o
   pub uncounted : (error : OpenError) → o.ending ≡ opened_as error → RefusesWith g old error disk → (IsTrue g.tells → RefusesWorld (g.reads old) error)
       → ((base : State) → IsTrue g.tells → StandsForDatabase (g.reads old) base → IsUndamaged error) → ReportLeaves g old o
   uncounted error is stays refused undamaged =
-      let why : EndsFor g old o.left.disk (Unopened error) = subst (λ d. EndsFor g old d (Unopened error)) (sym same) (stays, refused) in
+      let why : EndsRunFor g old o.left.disk (Unopened error) = subst (λ d. EndsRunFor g old d (Unopened error)) (sym same) (stays, refused) in
       record {
         none = none;
         left = left_told;

@@ -19,7 +19,7 @@ use Rattle.ctr_database.specs.ctr_run.declared.ran.Ran.{Ran}
 use Rattle.ctr_database.specs.ctr_run.declared.ran.RunEnd.{RunEnd}
 use Rattle.ctr_database.specs.ctr_run.declared.ran.RunEnd.TheVariants as run
 use Rattle.ctr_database.specs.ctr_run.Promises.{IsRunOf}
-use Rattle.ctr_database.specs.ctr_run.Running.{EndsFor, RunsInOrder, RunsOver}
+use Rattle.ctr_database.specs.ctr_run.Running.{EndsRunFor, RunsInOrder, RunsOver}
 use Rattle.ctr_top.specs.declared.outcome.Outcome.{Outcome}
 use Rattle.ctr_top.specs.declared.ending.Ending.{Ending}
 use Rattle.ctr_top.specs.declared.ending.Ending.TheVariants as ending
@@ -62,7 +62,7 @@ opened_calm : {D : Type 0} (g : Ghosts D) (old new : D) (error : OpenError) → 
 opened_calm g old new error stays other = stays.no_fault (λ is. other (ap opened_as is))
 
 -- where the ending isn't that of a fault, none was met
-pub ran_calm : {D : Type 0} (g : Ghosts D) (old new : D) (end : RunEnd) → EndsFor g old new end → ran_as end ≢ ending.DiskFault → g.faults_of new ≡ g.faults_of old
+pub ran_calm : {D : Type 0} (g : Ghosts D) (old new : D) (end : RunEnd) → EndsRunFor g old new end → ran_as end ≢ ending.DiskFault → g.faults_of new ≡ g.faults_of old
 ran_calm g old new run.Finished why other = why.0
 ran_calm g old new (run.Unopened error) why other = opened_calm g old new error why.0 other
 ran_calm g old new (run.Stopped stop.Fault) why other = absurd (other refl)

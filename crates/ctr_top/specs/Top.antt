@@ -31,7 +31,7 @@ use Rattle.ctr_database.specs.Database.{IsNewlyMade, IsNoneOrNewlyMade}
 use Rattle.ctr_database.specs.ctr_run.declared.ran.Left.{Left}
 use Rattle.ctr_database.specs.ctr_run.declared.ran.RunEnd.{RunEnd}
 use Rattle.ctr_database.specs.ctr_run.declared.ran.RunEnd.TheVariants.{Stopped, Unopened}
-use Rattle.ctr_database.specs.ctr_run.Running.{EndsAsAsked, EndsFor, RunsInOrder, RunsNone, RunsOver, opened_on}
+use Rattle.ctr_database.specs.ctr_run.Running.{EndsAsAsked, EndsRunFor, RunsInOrder, RunsNone, RunsOver, opened_on}
 use Rattle.ctr_database.specs.ctr_run.ctr_world.Ended.{PassesOpening}
 use Rattle.ctr_database.specs.ctr_run.ctr_world.World.{rows_asked}
 use Rattle.ctr_database.specs.ctr_run.ctr_world.totals_Totals.{AreTotals, no_totals}
@@ -66,10 +66,11 @@ pub record IsScriptOf {D S : Type 0} (s : Source S) (source : S) (lines : List L
 abbrev pub IsUnrun : {D : Type 0} → Left D → Type 0
 IsUnrun l = (l.tape.entries ≡ []) × (l.undone ≡ 0)
 
--- A script was run. Whatever the disk tells, the tape stands in the order of its lines, its moments lie
--- in the call, and it is whole where the run is finished. Over a database it is legal, a crash at any
--- moment leaves a prefix of the commit order with every commit answered by then, or, before the first
--- entry, what it might have left as the call began, and a run that is finished is complete.
+-- A script was run. Whatever the disk tells, the tape stands in the order of its lines, its moments
+-- lie in the call, and it is whole where the run is finished. Over a database it is legal, a crash
+-- at any moment leaves a prefix of the commit order with every commit answered by then, or, before
+-- the first entry, what it might have left as the call began, and a run that is finished is
+-- complete.
 pub record RanScript {D S : Type 0} (g : Ghosts D) (old : D) (s : Source S) (source : S)
     (o : Outcome D) : Type 0 where
   pub lines : List Line
@@ -103,19 +104,19 @@ pub record GoesForward {D S : Type 0} (g : Ghosts D) (s : Source S) (old new : D
 
 -- ---- the cause of each ending
 
--- The ending is that of this end of a run, which has its cause: that the database was opened, why it
--- wasn't, and then nothing was run, and a crash leaves a database as it was; or why its World was
--- stopped. Over a database only some ends come where nothing fails.
+-- The ending is that of this end of a run, which has its cause: that the database was opened, why
+-- it wasn't, and then nothing was run, and a crash leaves a database as it was; or why its World
+-- was stopped. Over a database only some ends come where nothing fails.
 pub record EndsBy {D : Type 0} (g : Ghosts D) (old : D) (o : Outcome D) : Type 0 where
   pub end : RunEnd
   pub is : o.ending ≡ ran_as end
-  pub why : EndsFor g old o.left.disk end
+  pub why : EndsRunFor g old o.left.disk end
   pub none : (error : OpenError) → end ≡ Unopened error → RunsNone g old o.left
   pub asked : (base : State) → IsTrue g.tells → StandsForDatabase (g.reads old) base
       → EndsAsAsked g old o.left.disk end
 
--- What each ending says of the source: a script that was read, one that is none or is too long, or a
--- fault.
+-- What each ending says of the source: a script that was read, one that is none or is too long, or
+-- a fault.
 abbrev pub SourceWhy : {S : Type 0} → Source S → S → S → Ending → Type 0
 SourceWhy s old new ending.Finished = Unit {0}
 SourceWhy s old new (ending.Refused line at) = IsTrue s.tells → IsShortRefusal (s.left old) line at
@@ -147,8 +148,9 @@ pub record IsByScript (bytes : List ℕ) (e : Ending) : Type 0 where
       → (e ≡ ending.Refused line at) ⊎ IsHindered e
   pub too_long : most_bytes < length bytes → (e ≡ ending.TooLong) ⊎ IsHindered e
 
--- The cause of each ending of a run. A call that failed ends the run and is told: at any other ending
--- none has failed. Where the script wasn't read, nothing was run, and the disk wasn't touched.
+-- The cause of each ending of a run. A call that failed ends the run and is told: at any other
+-- ending none has failed. Where the script wasn't read, nothing was run, and the disk wasn't
+-- touched.
 pub record RunCauses {D S : Type 0} (g : Ghosts D) (old : D) (s : Source S)
     (source source_new : S) (o : Outcome D) : Type 0 where
   pub by_disk : IsScriptRead o.ending → EndsBy g old o
@@ -158,8 +160,8 @@ pub record RunCauses {D S : Type 0} (g : Ghosts D) (old : D) (s : Source S)
   pub disk_calm : o.ending ≢ ending.DiskFault → g.faults_of o.left.disk ≡ g.faults_of old
   pub source_calm : o.ending ≢ ending.ReadFault → s.faults_of source_new ≡ s.faults_of source
 
--- Where nothing fails a run is finished, or memory was refused before its first entry, or it tells the
--- last number of a record, 2^63 - 1, or a greater one.
+-- Where nothing fails a run is finished, or memory was refused before its first entry, or it tells
+-- the last number of a record, 2^63 - 1, or a greater one.
 abbrev pub EndsUnfailed : {D : Type 0} → Ending → Left D → Type 0
 EndsUnfailed e l = (e ≡ ending.Finished)
     ⊎ (((e ≡ ending.OutOfMemory) × (l.tape.entries ≡ []))
@@ -168,10 +170,9 @@ EndsUnfailed e l = (e ≡ ending.Finished)
 -- ---- load
 
 -- The lines were run, in serial order unless on threads, or memory was refused before the disk was
--- touched. What stands of a script's run stands here: order, what a crash leaves, causes, and, where
--- nothing fails, the end.
--- Over a database a load that is finished tells the rows of the table `load` and their sum, as they
--- are behind all that asked for a commit; else it tells none.
+-- touched. What stands of a script's run stands here: order, what a crash leaves, causes, and,
+-- where nothing fails, the end. Over a database a load that is finished tells the rows of the table
+-- `load` and their sum, as they are behind all that asked for a commit; else it tells none.
 pub record Loads {D : Type 0} (g : Ghosts D) (old : D) (lines : List Line) (threads : Bool)
     (o : Outcome D) : Type 0 where
   pub order : RunsInOrder g old lines (IsFinished o) o.left
@@ -222,8 +223,8 @@ pub record Makes {D : Type 0} (g : Ghosts D) (old : D) (o : Outcome D) : Type 0 
 
 -- ---- report
 
--- A report has no entries. Of a database a crash at each moment leaves that in the state in which it was,
--- or what it might have left as the call began. It is finished, or not opened.
+-- A report has no entries. Of a database a crash at each moment leaves that in the state in which
+-- it was, or what it might have left as the call began. It is finished, or not opened.
 pub record ReportLeaves {D : Type 0} (g : Ghosts D) (old : D) (o : Outcome D) : Type 0 where
   pub none : IsUnrun o.left
   pub left : (base : State) → IsTrue g.tells → StandsForDatabase (g.reads old) base

@@ -24,7 +24,7 @@ use Rattle.ctr_record_laws.proofs.Gathering.{matches, match_key, match_used, non
 use Rattle.ctr_record_laws.proofs.Members.{StandsOnce, among_front, once_rest}
 use Rattle.ctr_record_laws.proofs.Owned.{among_numbered, slot_inside, slot_once}
 use Rattle.ctr_record_laws.proofs.Room.{AreApart}
-use Rattle.ctr_totals.specs.Totals.{number_of, sum_of}
+use Rattle.ctr_totals.specs.Totals.{number_of_row, sum_of_rows}
 use Rattle.ctr_totals.specs.Facts.{number_seen}
 use Rattle.ctr_totals.specs.Counting.{one_row, one_number, rows_along, sum_along}
 
@@ -46,7 +46,7 @@ module _ (test : ℕ → Bool) where
   -- what is seen of entries has so many rows, and this sum
   pub record Sees (entries : Entries) (rows : ℕ) (sum : ℤ) : Type 0 where
     pub rows_are : length (entries_seen test entries) ≡ rows
-    pub sum_is : sum_of (entries_seen test entries) ≡ sum
+    pub sum_is : sum_of_rows (entries_seen test entries) ≡ sum
 
   sees_first : (e : ℤ × List RowVersion) (es : Entries) (rows : ℕ) (sum : ℤ) → Sees es rows sum → Sees (e ∷ es) (one_row (number_seen test e.1) + rows) (one_number (number_seen test e.1) +ℤ sum)
   sees_first e es rows sum rest = record {
@@ -54,13 +54,13 @@ module _ (test : ℕ → Bool) where
     sum_is = by_sum (value_seen test e.1);
   }
     where
-      by_rows : (o : Option Row) → length (option_map_or (λ v. (e.0, v) ∷ entries_seen test es) o (entries_seen test es)) ≡ one_row (option_map number_of o) + rows
+      by_rows : (o : Option Row) → length (option_map_or (λ v. (e.0, v) ∷ entries_seen test es) o (entries_seen test es)) ≡ one_row (option_map number_of_row o) + rows
       by_rows None = let is = rest.rows_are in omega (arith, is)
       by_rows (Some row) = let is = rest.rows_are in omega (arith, is)
 
-      by_sum : (o : Option Row) → sum_of (option_map_or (λ v. (e.0, v) ∷ entries_seen test es) o (entries_seen test es)) ≡ one_number (option_map number_of o) +ℤ sum
+      by_sum : (o : Option Row) → sum_of_rows (option_map_or (λ v. (e.0, v) ∷ entries_seen test es) o (entries_seen test es)) ≡ one_number (option_map number_of_row o) +ℤ sum
       by_sum None = rest.sum_is ∙ no_more sum
-      by_sum (Some row) = ap (λ s. number_of row +ℤ s) rest.sum_is
+      by_sum (Some row) = ap (λ s. number_of_row row +ℤ s) rest.sum_is
 
   abbrev With : List RowVersion → ℕ → ℤ → Entries → Type 0
   With chain rows sum entries = Sees entries (one_row (number_seen test chain) + rows) (one_number (number_seen test chain) +ℤ sum)
@@ -69,21 +69,21 @@ module _ (test : ℕ → Bool) where
       → Sees (put int_cmp key chain es) (one_row (number_seen test chain) + rows) (one_number (number_seen test chain) +ℤ sum)
   sees_put key chain [] rows sum none rest = sees_first (key, chain) [] rows sum rest
   sees_put key chain (e ∷ es) rows sum none rest =
-      by (λ other. sees_put key chain es (length (entries_seen test es)) (sum_of (entries_seen test es)) other (record { rows_are = refl; sum_is = refl })) (int_cmp key e.0) none
+      by (λ other. sees_put key chain es (length (entries_seen test es)) (sum_of_rows (entries_seen test es)) other (record { rows_are = refl; sum_is = refl })) (int_cmp key e.0) none
     where
       -- the first one, and those behind it
-      behind : Sees (put int_cmp key chain es) (one_row (number_seen test chain) + length (entries_seen test es)) (one_number (number_seen test chain) +ℤ sum_of (entries_seen test es)) → With chain rows sum (e ∷ put int_cmp key chain es)
+      behind : Sees (put int_cmp key chain es) (one_row (number_seen test chain) + length (entries_seen test es)) (one_number (number_seen test chain) +ℤ sum_of_rows (entries_seen test es)) → With chain rows sum (e ∷ put int_cmp key chain es)
       behind more =
-          let old = sees_first e es (length (entries_seen test es)) (sum_of (entries_seen test es)) (record { rows_are = refl; sum_is = refl }) in
+          let old = sees_first e es (length (entries_seen test es)) (sum_of_rows (entries_seen test es)) (record { rows_are = refl; sum_is = refl }) in
           let new = sees_first e (put int_cmp key chain es) _ _ more in
           let old_rows = sym old.rows_are ∙ rest.rows_are in
           let old_sum = sym old.sum_is ∙ rest.sum_is in
           record {
             rows_are = new.rows_are ∙ nat_moved (one_row (number_seen test e.1)) (one_row (number_seen test chain)) (length (entries_seen test es)) ∙ ap (λ n. one_row (number_seen test chain) + n) old_rows;
-            sum_is = new.sum_is ∙ int_moved (one_number (number_seen test e.1)) (one_number (number_seen test chain)) (sum_of (entries_seen test es)) ∙ ap (λ n. one_number (number_seen test chain) +ℤ n) old_sum;
+            sum_is = new.sum_is ∙ int_moved (one_number (number_seen test e.1)) (one_number (number_seen test chain)) (sum_of_rows (entries_seen test es)) ∙ ap (λ n. one_number (number_seen test chain) +ℤ n) old_sum;
           }
 
-      by : (find int_cmp key es ≡ None → Sees (put int_cmp key chain es) (one_row (number_seen test chain) + length (entries_seen test es)) (one_number (number_seen test chain) +ℤ sum_of (entries_seen test es)))
+      by : (find int_cmp key es ≡ None → Sees (put int_cmp key chain es) (one_row (number_seen test chain) + length (entries_seen test es)) (one_number (number_seen test chain) +ℤ sum_of_rows (entries_seen test es)))
           → (o : Ordering) → cond (is_eq o) (Some e.1) (find int_cmp key es) ≡ None → With chain rows sum (by_order o ((key, chain) ∷ e ∷ es) ((e.0, chain) ∷ es) (e ∷ put int_cmp key chain es))
       by more Less other = sees_first (key, chain) (e ∷ es) rows sum rest
       by more Equal other = absurd cc

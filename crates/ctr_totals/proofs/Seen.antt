@@ -7,13 +7,13 @@ use Rattle.ctr_page.specs.declared.rows.Place.{Place}
 use Rattle.ctr_area.specs.Areas.{RowVersion, Area}
 use Rattle.ctr_area.specs.Chains.{older_bound, if_any, places_along, Leads}
 use Rattle.ctr_area.specs.Sound.{IsKeptFor}
-use Rattle.ctr_totals.specs.Totals.{number_of}
+use Rattle.ctr_totals.specs.Totals.{number_of_row}
 use Rattle.ctr_totals.specs.declared.facts.SlotFacts.{SlotFacts}
 use Rattle.ctr_totals.specs.Facts.{number_seen, number_along, number_at, IsKnownSlot, IsSeenIn}
 
 -- one version, and those behind it
-pub seen_first : (test : ℕ → Bool) (v : RowVersion) (vs : List RowVersion) → number_seen test (v ∷ vs) ≡ cond (test v.0) (option_map number_of v.1) (number_seen test vs)
-seen_first test v vs = elim (test v.0) as (λ b. option_map number_of (cond b v.1 (value_seen test vs)) ≡ cond b (option_map number_of v.1) (number_seen test vs)) [
+pub seen_first : (test : ℕ → Bool) (v : RowVersion) (vs : List RowVersion) → number_seen test (v ∷ vs) ≡ cond (test v.0) (option_map number_of_row v.1) (number_seen test vs)
+seen_first test v vs = elim (test v.0) as (λ b. option_map number_of_row (cond b v.1 (value_seen test vs)) ≡ cond b (option_map number_of_row v.1) (number_seen test vs)) [
   | true ↦ refl
   | false ↦ refl
 ]
@@ -35,17 +35,17 @@ module _ (test : ℕ → Bool) (area : Area) (e : ℕ) (key : ℤ) (from at : Pl
   pub kept_here : IsKeptFor area e key at (area.older at) × Leads n area.older (IsKeptFor area e key) (area.older at).pointer
   kept_here = ⊎_elim (λ none. absurd (some none)) (λ more. more) way.leads
 
-  split : number_along test area older_bound from ≡ cond (test (area.older at).version.0) (option_map number_of (area.older at).version.1) (number_along test area n (area.older at).pointer)
+  split : number_along test area older_bound from ≡ cond (test (area.older at).version.0) (option_map number_of_row (area.older at).version.1) (number_along test area n (area.older at).pointer)
   split = way.same ∙ ap (λ b. number_seen test (map (λ q. (area.older q).version) (cond b [] (at ∷ rest)))) (ne_eqb at.page 0 some)
       ∙ seen_first test (area.older at).version (map (λ q. (area.older q).version) rest)
 
-  pub seen_here : test (area.older at).version.0 ≡ true → (number : Option ℤ) → option_map number_of (area.older at).version.1 ≡ number → number ≡ number_along test area older_bound from
-  seen_here is number told = sym (split ∙ ap (λ b. cond b (option_map number_of (area.older at).version.1) (number_along test area n (area.older at).pointer)) is ∙ told)
+  pub seen_here : test (area.older at).version.0 ≡ true → (number : Option ℤ) → option_map number_of_row (area.older at).version.1 ≡ number → number ≡ number_along test area older_bound from
+  seen_here is number told = sym (split ∙ ap (λ b. cond b (option_map number_of_row (area.older at).version.1) (number_along test area n (area.older at).pointer)) is ∙ told)
 
   pub goes_on : test (area.older at).version.0 ≡ false → (next : Place) → (area.older at).pointer ≡ next → IsOnWay test area e key from next n
   goes_on isnt next is = subst (λ p. IsOnWay test area e key from p n) is (record {
     leads = kept_here.1;
-    same = split ∙ ap (λ b. cond b (option_map number_of (area.older at).version.1) (number_along test area n (area.older at).pointer)) isnt;
+    same = split ∙ ap (λ b. cond b (option_map number_of_row (area.older at).version.1) (number_along test area n (area.older at).pointer)) isnt;
   })
 
 -- the chain ends

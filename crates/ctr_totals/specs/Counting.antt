@@ -10,7 +10,7 @@ abbrev pub one_row : Option ℤ → ℕ
 one_row None = 0
 one_row (Some n) = 1
 
--- and its number adds to the sum
+-- What a row's number adds to the sum: nothing where there is no row.
 abbrev pub one_number : Option ℤ → ℤ
 one_number None = pos 0
 one_number (Some n) = n

@@ -12,15 +12,15 @@ use Rattle.ctr_pvs.specs.declared.slot.LentPart.{LentPart}
 use Rattle.ctr_totals.specs.declared.facts.VersionFacts.{VersionFacts}
 use Rattle.ctr_totals.specs.declared.facts.SlotFacts.{SlotFacts}
 use Rattle.ctr_totals.specs.declared.facts.OlderFacts.{OlderFacts}
-use Rattle.ctr_totals.specs.Totals.{number_of}
+use Rattle.ctr_totals.specs.Totals.{number_of_row}
 
 -- ---- what is read
 
 -- whose a version is, and the number of its row
 abbrev pub IsKnown : RowVersion → VersionFacts → Type 0
-IsKnown v f = (v.0 ≡ f.xid) × (option_map number_of v.1 ≡ f.number)
+IsKnown v f = (v.0 ≡ f.xid) × (option_map number_of_row v.1 ≡ f.number)
 
--- the same of a version that may be there, and is lent with a payload
+-- A version that may be there, and is lent with a payload, is known as its facts say.
 abbrev pub IsKnownIfAny : ℤ → Option LentPart → Option VersionFacts → Type 0
 IsKnownIfAny key None None = Unit {0}
 IsKnownIfAny key (Some p) (Some f) =
@@ -51,14 +51,15 @@ pub record IsKnownOlder (older : Older) (f : OlderFacts) : Type 0 where
 
 -- the number of the first version whose transaction passes; none where that is a tombstone
 abbrev pub number_seen : (ℕ → Bool) → List RowVersion → Option ℤ
-number_seen test vs = option_map number_of (value_seen test vs)
+number_seen test vs = option_map number_of_row (value_seen test vs)
 
--- the same along the pointers, of so many version entries from a place on
+-- The number of the first version that passes along the pointers, of so many version entries from a
+-- place on.
 abbrev pub number_along : (ℕ → Bool) → Area → ℕ → Place → Option ℤ
 number_along test area n at =
     number_seen test (map (λ q. (area.older q).version) (places_along n area.older at))
 
--- the same of the row at a slot, where the slot is used
+-- The number of the row's version that passes at a slot, where the slot is used.
 abbrev pub number_at : (ℕ → Bool) → Area → Place → Option ℤ
 number_at test area at =
     if (area.slot at).used then number_seen test (chain_of area.older (area.slot at)) else None

@@ -19,7 +19,7 @@ abbrev pub FindsLoad : (ℕ → Bool) → Area → Option ℕ → Type 0
 FindsLoad committed area None = (e : ℕ) → e < 32 → IsLoad committed (area.title e) → ⊥
 FindsLoad committed area (Some e) = (e < 32) × IsLoad committed (area.title e)
 
--- these columns are those of a generated script, or they aren't
+-- A test of columns says that they are those of a generated script, or that they aren't.
 abbrev pub TellsColumns : List Column → Bool → Type 0
 TellsColumns columns true = columns ≡ load_columns
 TellsColumns columns false = columns ≡ load_columns → ⊥

@@ -14,15 +14,15 @@ second_number (key ∷ (value.Int n ∷ others)) = n
 second_number values = pos 0
 
 -- the number in a row's second column
-abbrev pub number_of : Row → ℤ
-number_of row = second_number row.values
+abbrev pub number_of_row : Row → ℤ
+number_of_row row = second_number row.values
 
 -- the sum of these numbers of rows
-abbrev pub sum_of : List (ℤ × Row) → ℤ
-sum_of [] = pos 0
-sum_of (r ∷ rs) = number_of r.1 +ℤ sum_of rs
+abbrev pub sum_of_rows : List (ℤ × Row) → ℤ
+sum_of_rows [] = pos 0
+sum_of_rows (r ∷ rs) = number_of_row r.1 +ℤ sum_of_rows rs
 
--- no rows
+-- The totals of a table that has no rows.
 abbrev pub no_totals : Totals
 no_totals = record { rows = 0; sum = pos 0 }
 
@@ -32,7 +32,7 @@ abbrev pub AreTotalsOf : Option Table → Totals → Type 0
 AreTotalsOf None t = t ≡ no_totals
 AreTotalsOf (Some table) t =
     (table.schema.columns ≡ load_columns
-    → t ≡ record { rows = length table.rows; sum = sum_of table.rows })
+    → t ≡ record { rows = length table.rows; sum = sum_of_rows table.rows })
     × (table.schema.columns ≢ load_columns → t ≡ no_totals)
 
 -- The totals of a database: those of its table `load`.

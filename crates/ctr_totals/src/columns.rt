@@ -8,7 +8,7 @@ ghost use Rattle.ctr_page.specs.declared.table.TheConstants.{PAGE_SIZE, ENTRY_SI
 ghost use Rattle.ctr_page.specs.Columns.{name_in, columns_in};
 ghost use Rattle.ctr_record_effects.specs.States.{pages_in, area_in};
 ghost use Rattle.ctr_record_effects.specs.Standing.{IsDatabaseState};
-ghost use Rattle.ctr_walk.specs.Columns.{AreNamed};
+ghost use Rattle.ctr_walk.specs.Columns.{HaveNames};
 ghost use Rattle.ctr_walk.specs.Damage.{searched, damage_told, EndsOnPage, EndsTold, ReadsPages};
 ghost use Rattle.ctr_totals.specs.Finding.{TellsColumn, TellsColumns};
 ghost use Rattle.ctr_totals.specs.Columns.{column_at, ColumnsTold};
@@ -51,7 +51,7 @@ fn is_column(entry: &CatalogEntry, column: u8, name: &[u8], kind: Kind) -> bool
 /// Whether an entry has three columns that are those of a generated script.
 fn are_columns(entry: &CatalogEntry) -> bool
     requires whole { length entry.now.bytes ≡ ENTRY_SIZE }
-    requires named { AreNamed entry.now.bytes }
+    requires named { HaveNames entry.now.bytes }
     ensures { TellsColumns (columns_in entry.now.bytes) result }
 {
     if entry.count() != 3 {

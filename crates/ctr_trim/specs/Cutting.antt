@@ -31,11 +31,11 @@ use Rattle.ctr_trim.specs.Trimming.{EndsCheck}
 abbrev pub entry_left : VersionEntry → VersionEntry
 entry_left e = record e { older = nowhere }
 
--- it is laid over the version entry at a place
+-- The record that lays what is left over the version entry at a place.
 abbrev pub cut_record : Place → VersionEntry → Record
 cut_record at e = Trim (laid_on_place at (kept_size (entry_width e)) (kept_bytes (entry_left e)))
 
--- These are the bytes of what is left of a version entry.
+-- Bytes are those of what is left of a version entry.
 pub record IsBytesOfEntry (e : VersionEntry) (l : EntryLaid) : Type 0 where
   pub wide : l.w ≡ entry_width e
   pub size_is : l.size ≡ kept_size (entry_width e)

@@ -50,12 +50,12 @@ slot_left BehindHead s = record s { previous = None; older = nowhere }
 slot_left BehindPrevious s = record s { older = nowhere }
 slot_left WholeSlot s = blank_of (slot_width s)
 
--- it is laid over the slot at a place
+-- The record that lays what is left over the slot at a place.
 abbrev pub trim_record : TrimWay → Place → RowSlot → Record
 trim_record way at s = Trim (laid_on_place at (slot_size (slot_width s))
     (slot_bytes (slot_width s) (slot_left way s)))
 
--- These are the bytes of what is left of a slot.
+-- Bytes are those of what is left of a slot.
 pub record IsBytesOf (way : TrimWay) (slot : RowSlot) (l : SlotLaid) : Type 0 where
   pub wide : l.w ≡ slot_width slot
   pub small : slot_size l.w ≤ 2072

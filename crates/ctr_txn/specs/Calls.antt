@@ -54,9 +54,9 @@ EndsFor s old new result = OnOk result (SetsTxn s None old new × (new.numbers �
     × OnErr result (new ≡ old)
 
 -- A state that is shown before a call, and the one that is shown after it.
-abbrev pub Shows : {D T : Type 0} → Image → Ghosts D → TxnsHeld → TxnsHeld → View D → View D
+abbrev pub ShowsBehind : {D T : Type 0} → Image → Ghosts D → TxnsHeld → TxnsHeld → View D → View D
     → Result T StoreFault → ℕ → State → State → Type 0
-Shows first g old new a b result low before after = IsTrue g.tells → IsSoundImage first
+ShowsBehind first g old new a b result low before after = IsTrue g.tells → IsSoundImage first
     → IsShown low (site_of a.now) (scene_with old before)
     → OnOk result (IsShown low (site_of b.now) (scene_with new after))
 

@@ -11,8 +11,8 @@ use Rattle.ctr_txn.specs.declared.txn.Asked.{Asked}
 use Rattle.ctr_txn.specs.Numbered.{NumbersHeld}
 
 -- A session's transaction: its number, 0 where none is drawn, its snapshot, and whether it is
--- within its rollback; of how many commits the snapshot is; its commit number once it asked; and whether
--- room is kept for an item of its own in the secondary log.
+-- within its rollback; of how many commits the snapshot is; its commit number once it asked; and
+-- whether room is kept for an item of its own in the secondary log.
 pub record TxnHeld : Type 0 where
   pub session : SessionHeld
   pub since : ℕ

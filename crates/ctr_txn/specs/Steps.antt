@@ -76,7 +76,7 @@ pub record AnswersNext (s : ℕ) (asked : Asked) (old new : TxnsHeld) : Type 0 w
     answered = old.answered + 1;
   }
 
--- These commits are answered, one behind another, each as the next one.
+-- Commits are answered, one behind another, each as the next one.
 abbrev pub AnswersInTurn : List (ℕ × Asked) → TxnsHeld → TxnsHeld → Type 0
 AnswersInTurn [] old new = new ≡ old
 AnswersInTurn (r ∷ rs) old new =

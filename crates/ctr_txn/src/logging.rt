@@ -13,7 +13,7 @@ ghost use Rattle.ctr_walk.specs.base_Base.{WhereSound};
 ghost use Rattle.ctr_walk.specs.OneRecord.{LogsOne};
 ghost use Rattle.ctr_txn.specs.Held.{TxnHeld, txn_of, number_drawn};
 ghost use Rattle.ctr_txn.specs.Rooms.{HasItemRoom};
-ghost use Rattle.ctr_txn.specs.Calls.{MayDraw, MayEnd, IsOverStore, DrawsFor, AsksFor, EndsFor, Shows, after_asking};
+ghost use Rattle.ctr_txn.specs.Calls.{MayDraw, MayEnd, IsOverStore, DrawsFor, AsksFor, EndsFor, ShowsBehind, after_asking};
 
 use crate::txns::Txns;
 use ctr_disk::{Disk, StoreFault};
@@ -38,7 +38,7 @@ impl Txns {
         ensures leaves { WhereSound O.first D.Disk (OnOk result (site_of store.new.now ≡ site_after store.old.meta.tables.next Begins (site_of store.old.now))) }
         // What is shown is the state in which the session was granted its lock.
         ensures shows { (low : ℕ) (state : State) (t u : Transaction) → transaction_of state s ≡ Some t → t.asked ≡ None → t.own ≡ [] → IsGranted t u
-            → Shows O.first D.Disk self.old self.new store.old store.new result low state (with_transaction s u state) }
+            → ShowsBehind O.first D.Disk self.old self.new store.old store.new result low state (with_transaction s u state) }
     {
         a_logged_record_is_its_action();
         an_action_is_shown();
@@ -68,7 +68,7 @@ impl Txns {
         // a table that it made or dropped.
         ensures shows { (low : ℕ) (state : State) (b : TxnHeld) (t : Transaction) → txn_of s self.old ≡ Some b → b.session.undoing ≡ false → transaction_of state s ≡ Some t → t.asked ≡ None
             → AreUntouched state.sessions s t → OwedByCommit store.old.now.tables b.session.me
-            → Shows O.first D.Disk self.old self.new store.old store.new result low state (after_asking s t state) }
+            → ShowsBehind O.first D.Disk self.old self.new store.old store.new result low state (after_asking s t state) }
     {
         a_logged_record_is_its_action();
         an_action_is_shown();
@@ -95,7 +95,7 @@ impl Txns {
         // What is shown is the state without the transaction, where no item of its own is left.
         ensures shows { (low : ℕ) (state : State) (b : TxnHeld) (t : Transaction) → txn_of s self.old ≡ Some b → transaction_of state s ≡ Some t → t.asked ≡ None
             → OwedByAbort store.old.now.tables b.session.me
-            → Shows O.first D.Disk self.old self.new store.old store.new result low state (without_transaction s state) }
+            → ShowsBehind O.first D.Disk self.old self.new store.old store.new result low state (without_transaction s state) }
     {
         a_logged_record_is_its_action();
         an_action_is_shown();

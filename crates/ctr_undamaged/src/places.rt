@@ -9,7 +9,7 @@ ghost use Rattle.ctr_heap.specs.area_Changes.{IsPlaceOf};
 ghost use Rattle.ctr_heap.specs.area_Reading.{columns_on, width_on};
 ghost use Rattle.ctr_heap.specs.record_effects_States.{pages_in, area_in, IsWholePage};
 ghost use Rattle.ctr_revert.specs.record_effects_Standing.{IsDatabaseState};
-ghost use Rattle.ctr_heap.specs.Writing.{IsOfTable};
+ghost use Rattle.ctr_heap.specs.Writing.{HasTableParts};
 ghost use Rattle.ctr_heap.specs.ctr_passed.Laid.{width_in, slot_size_in, older_size_in};
 
 /// A place of a table lies on a counted page behind the catalog, which has room for it, and whose columns are those of the table: on a whole page a slot, or a version
@@ -27,6 +27,6 @@ pub fn a_place_of_a_table_fits()
 
 /// Chains of pages may begin in an entry that isn't free: eight of rows, and one of versions.
 pub fn a_table_can_be_linked_to()
-    ensures parts { (s : State) (e : ℕ) → IsDatabaseState s → e < 32 → IsWholePage (1 + e / 16) s → ((area_in s).title e).state ≢ 0 → IsOfTable (pages_in s) e }
+    ensures parts { (s : State) (e : ℕ) → IsDatabaseState s → e < 32 → IsWholePage (1 + e / 16) s → ((area_in s).title e).state ≢ 0 → HasTableParts (pages_in s) e }
     ensures eight { (s : State) (e : ℕ) → ((area_in s).title e).state ≢ 0 → length ((area_in s).firsts e).buckets ≡ 8 }
 {}

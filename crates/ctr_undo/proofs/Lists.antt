@@ -4,7 +4,7 @@ use Rattle.std.specs.List.{AllByRecursion}
 use Rattle.std.proofs.lemmas.List.{length-append, take_at, reverse-append, reverse-reverse}
 use Rattle.ctr_undo.specs.declared.list.UndoItem.{UndoItem}
 use Rattle.ctr_undo.specs.declared.list.UndoItem.TheVariants.{Slog, Orphan}
-use Rattle.ctr_undo.specs.Left.{UndoLeft, left_in, IsOver, Goes}
+use Rattle.ctr_undo.specs.Left.{UndoLeft, left_in, IsUndoOver, Goes}
 use Rattle.ctr_undo.specs.Series.{LeadsOn}
 use Rattle.ctr_undo.specs.Turns.{steps_for}
 
@@ -66,14 +66,14 @@ turns_left (suc n) u v leads = sums (left_in u) (left_in leads.1) (left_in v) n 
     sums : (a b c n : ℕ) → a ≡ b + 1 → b ≡ c + n → a ≡ c + suc n
     sums a b c n one two = omega (arith, one, two)
 
-pub all_turns : (n : ℕ) (u v : UndoLeft) → LeadsOn n u v → IsOver v → n ≡ left_in u
+pub all_turns : (n : ℕ) (u v : UndoLeft) → LeadsOn n u v → IsUndoOver v → n ≡ left_in u
 all_turns n u v leads over = sums n (left_in u) (length v.items) (length v.orphans) (turns_left n u v leads) (ap length over.0) (ap length over.1)
   where
     sums : (n a b c : ℕ) → a ≡ b + c + n → b ≡ 0 → c ≡ 0 → n ≡ a
     sums n a b c one two three = omega (arith, one, two, three)
 
 -- who has a next one isn't over
-pub not_over : (item : UndoItem) (u v : UndoLeft) → Goes item u v → IsOver u → ⊥
+pub not_over : (item : UndoItem) (u v : UndoLeft) → Goes item u v → IsUndoOver u → ⊥
 not_over (Slog i) u v goes over = some_in u.items v.items i goes.0 over.0
 not_over (Orphan x) u v goes over = absurd (let e = sym goes.2 ∙ over.1 in cc)
 

@@ -39,7 +39,7 @@ use Rattle.ctr_walk.proofs.Damages.{reads_err, reads_behind}
 use Rattle.ctr_walk.proofs.Searches.{ok_by}
 use Rattle.ctr_undo.specs.declared.naming.NamesRefusal.{NamesRefusal}
 use Rattle.ctr_undo.specs.declared.naming.NamesRefusal.TheVariants as refusal
-use Rattle.ctr_undo.specs.Naming.{name_said, GivesName, NameSaid, name_read, listed, answered, named_by}
+use Rattle.ctr_undo.specs.Naming.{name_said, GivesName, NameSaid, name_read, name_listed, answered, named_by}
 
 -- ---- an entry
 
@@ -113,7 +113,7 @@ module _ {D : Type 0} (first : Image) (g : Ghosts D) where
 -- those of the tables of items, in their order
 abbrev pub all_read : Area → List SlogItem → List (List ℕ)
 all_read area [] = []
-all_read area (i ∷ is) = listed (name_read area i) ++ all_read area is
+all_read area (i ∷ is) = name_listed (name_read area i) ++ all_read area is
 
 -- a live table's name is read
 live_said : (t : Title) → is_live t ≡ true → name_said t ≡ Some t.name
@@ -129,20 +129,20 @@ live_read area [] made dropped = refl
 live_read area (AllocOf x p ∷ is) made dropped = live_read area is (λ y e in_. made y e (inr in_)) (λ y e in_. dropped y e (inr in_))
 live_read area (FreeOf p ∷ is) made dropped = live_read area is (λ y e in_. made y e (inr in_)) (λ y e in_. dropped y e (inr in_))
 live_read area (CreateOf x e ∷ is) made dropped =
-    ap (λ name. listed name ++ all_read area is) (live_said (area.title e) (made x e (inl refl)))
+    ap (λ name. name_listed name ++ all_read area is) (live_said (area.title e) (made x e (inl refl)))
     ∙ ap (λ names. (area.title e).name ∷ names) (live_read area is (λ y f in_. made y f (inr in_)) (λ y f in_. dropped y f (inr in_)))
 live_read area (DropOf x e ∷ is) made dropped =
-    ap (λ name. listed name ++ all_read area is) (live_said (area.title e) (dropped x e (inl refl)))
+    ap (λ name. name_listed name ++ all_read area is) (live_said (area.title e) (dropped x e (inl refl)))
     ∙ ap (λ names. (area.title e).name ∷ names) (live_read area is (λ y f in_. made y f (inr in_)) (λ y f in_. dropped y f (inr in_)))
 
 -- one item more
-pub read_on : (s t : State) (items : List SlogItem) (k : ℕ) (d : SlogItem) (old new : List (List ℕ)) → t ≡ s → k < length items → new ≡ old ++ listed (name_read (area_in t) (get_or items k d))
+pub read_on : (s t : State) (items : List SlogItem) (k : ℕ) (d : SlogItem) (old new : List (List ℕ)) → t ≡ s → k < length items → new ≡ old ++ name_listed (name_read (area_in t) (get_or items k d))
     → old ++ all_read (area_in s) (drop k items) ≡ all_read (area_in s) items → new ++ all_read (area_in s) (drop (k + 1) items) ≡ all_read (area_in s) items
 read_on s t items k d old new same less added told =
     let rest = all_read (area_in s) (drop (k + 1) items) in
     let here : drop k items ≡ get_or items k d ∷ drop (k + 1) items = drop-cons items k d less ∙ ap (λ n. get_or items k d ∷ drop n items) (let z : suc k ≡ k + 1 = omega arith in z) in
-    ap (λ names. names ++ rest) (added ∙ ap (λ (u : State). old ++ listed (name_read (area_in u) (get_or items k d))) same)
-    ∙ append_assoc old (listed (name_read (area_in s) (get_or items k d))) rest
+    ap (λ names. names ++ rest) (added ∙ ap (λ (u : State). old ++ name_listed (name_read (area_in u) (get_or items k d))) same)
+    ∙ append_assoc old (name_listed (name_read (area_in s) (get_or items k d))) rest
     ∙ sym (ap (λ l. old ++ all_read (area_in s) l) here) ∙ told
 
 pub fit_on : (items : List SlogItem) (k : ℕ) → k < length items → AllByRecursion ItemFits (drop k items) → AllByRecursion ItemFits (drop (k + 1) items)

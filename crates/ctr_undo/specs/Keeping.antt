@@ -24,7 +24,7 @@ undone_to v w = record w {
 
 -- ---- the name of what is undone
 
--- it is an item of a table
+-- Whether an item of undo is of a table, and not of a page that is to be free again.
 abbrev pub IsOfTable : UndoItem → Type 0
 IsOfTable (Slog (AllocOf x p)) = ⊥
 IsOfTable (Slog (FreeOf p)) = ⊥
@@ -40,7 +40,7 @@ name_undone (Slog (CreateOf x e)) site = (site.area.title e).name
 name_undone (Slog (DropOf x e)) site = (site.area.title e).name
 name_undone (Orphan x) site = []
 
--- the same as a list
+-- The name that an item of undo has, as a list; nothing where it has none.
 abbrev pub names_undone : UndoItem → Site → List (List ℕ)
 names_undone (Slog i) site = names_of_items site.area.title (i ∷ [])
 names_undone (Orphan x) site = []
@@ -55,7 +55,7 @@ IsNameKept (Slog (DropOf x e)) site w = (y : ℕ) × (f : ℕ)
     × IsItemOfName e (Dropping e) site y f × IsNoSessions w.run.sessions y
 IsNameKept (Orphan x) site w = Unit {0}
 
--- It is of a table, and none of the name is left.
+-- An item is of a table, and no item of the name is left.
 abbrev pub IsNameReleased : UndoItem → Site → Type 0
 IsNameReleased (Slog (AllocOf x p)) site = ⊥
 IsNameReleased (Slog (FreeOf p)) site = ⊥

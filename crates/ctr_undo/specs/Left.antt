@@ -15,25 +15,25 @@ pub record UndoLeft : Type 0 where
 abbrev pub left_in : UndoLeft → ℕ
 left_in u = length u.items + length u.orphans
 
--- nothing is left
-abbrev pub IsOver : UndoLeft → Type 0
-IsOver u = (u.items ≡ []) × (u.orphans ≡ [])
+-- Undo has neither items nor orphans left.
+abbrev pub IsUndoOver : UndoLeft → Type 0
+IsUndoOver u = (u.items ≡ []) × (u.orphans ≡ [])
 
 -- What is next goes: the latest item; or, where no item is left, the first transaction.
 abbrev pub Goes : UndoItem → UndoLeft → UndoLeft → Type 0
 Goes (Slog i) u v = (u.items ≡ v.items ++ i ∷ []) × (v.orphans ≡ u.orphans)
 Goes (Orphan x) u v = (u.items ≡ []) × (v.items ≡ []) × (u.orphans ≡ x ∷ v.orphans)
 
--- this is next, or nothing is left
-abbrev pub IsNext : UndoLeft → Option UndoItem → Type 0
-IsNext u None = IsOver u
-IsNext u (Some item) = (v : UndoLeft) × Goes item u v
+-- What undo takes next is told, or that nothing is left.
+abbrev pub IsNextLeft : UndoLeft → Option UndoItem → Type 0
+IsNextLeft u None = IsUndoOver u
+IsNextLeft u (Some item) = (v : UndoLeft) × Goes item u v
 
 -- items are of pages and of entries of the catalog that there may be
 abbrev pub ItemsFit : List SlogItem → Type 0
 ItemsFit items = AllByRecursion ItemFits items
 
--- the same of what is next
+-- What is next in undo's list fits the format.
 abbrev pub NextFits : UndoItem → Type 0
 NextFits (Slog i) = ItemFits i
 NextFits (Orphan x) = Unit {0}

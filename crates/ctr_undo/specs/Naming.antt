@@ -19,7 +19,7 @@ use Rattle.ctr_undo.specs.declared.naming.NamesRefusal.TheVariants as refusal
 abbrev pub name_said : Title → Option (List ℕ)
 name_said title = if title.state == 0 then None else Some title.name
 
--- this name was given, or memory ran out
+-- A call gives this name, or memory ran out.
 abbrev pub GivesName : Option (List ℕ) → Result (Option (List ℕ)) OutOfMemory → Type 0
 GivesName name given = IfOk given (λ found. found ≡ name)
 
@@ -38,9 +38,9 @@ name_read area (CreateOf x e) = name_said (area.title e)
 name_read area (DropOf x e) = name_said (area.title e)
 
 -- a name that is there, as a list
-abbrev pub listed : Option (List ℕ) → List (List ℕ)
-listed None = []
-listed (Some name) = name ∷ []
+abbrev pub name_listed : Option (List ℕ) → List (List ℕ)
+name_listed None = []
+name_listed (Some name) = name ∷ []
 
 -- ---- what is answered
 

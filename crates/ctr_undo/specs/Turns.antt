@@ -22,7 +22,7 @@ use Rattle.ctr_undo.specs.declared.list.UndoItem.{UndoItem}
 use Rattle.ctr_undo.specs.declared.list.UndoItem.TheVariants.{Slog, Orphan}
 use Rattle.ctr_undo.specs.declared.turning.UndoTurn.{UndoTurn}
 use Rattle.ctr_undo.specs.declared.turning.UndoTurn.TheVariants.{Undone, Over}
-use Rattle.ctr_undo.specs.Left.{UndoLeft, IsOver, Goes}
+use Rattle.ctr_undo.specs.Left.{UndoLeft, IsUndoOver, Goes}
 
 -- ---- what undoes what is next
 
@@ -31,7 +31,7 @@ abbrev pub record_for : UndoItem → ℕ → Record
 record_for (Slog i) byte = undo_record i byte
 record_for (Orphan x) byte = Abort x
 
--- the action
+-- The action by which an item is undone.
 abbrev pub undo_action : UndoItem → Action
 undo_action (Slog i) = undoing i
 undo_action (Orphan x) = Aborts
@@ -50,11 +50,11 @@ abbrev pub steps_for : UndoItem → ℕ
 steps_for (Slog i) = 2
 steps_for (Orphan x) = 1
 
--- it owes nothing more
+-- The action of what is next owes nothing more.
 abbrev pub OwesNext : UndoItem → State → Type 0
 OwesNext item s = Owes (undo_actor item s.tables) (undo_action item) (site_of s)
 
--- it leads from a state to the next
+-- The action of what is next leads from a state to another.
 abbrev pub DoesNext : UndoItem → State → State → Type 0
 DoesNext item s t = ActsBy (undo_actor item s.tables) (undo_action item) s t
 
@@ -71,17 +71,17 @@ LogsNext first g u a b (Err e) = (item : UndoItem) × (v : UndoLeft) × (byte : 
     × LogsOne {T = UndoTurn} first g (record_for item byte) a b (Err e)
 
 -- What is next goes from the list; it is over exactly where nothing is left.
-abbrev pub TakesNext : UndoLeft → UndoLeft → Result UndoTurn StoreFault → Type 0
-TakesNext u v (Ok Over) = IsOver u × (v ≡ u)
-TakesNext u v (Ok Undone) = (item : UndoItem) × Goes item u v
-TakesNext u v (Err e) = (v ≡ u) × (IsOver u → ⊥)
+abbrev pub TakesNextItem : UndoLeft → UndoLeft → Result UndoTurn StoreFault → Type 0
+TakesNextItem u v (Ok Over) = IsUndoOver u × (v ≡ u)
+TakesNextItem u v (Ok Undone) = (item : UndoItem) × Goes item u v
+TakesNextItem u v (Err e) = (v ≡ u) × (IsUndoOver u → ⊥)
 
 -- An item takes a page and a record, a mark a record; a turn that failed, no more than that.
-abbrev pub TakesSteps : UndoLeft → Result UndoTurn StoreFault → ℕ → ℕ → Type 0
-TakesSteps u (Ok Over) old new = new ≡ old
-TakesSteps u (Ok Undone) old new = (item : UndoItem) × (v : UndoLeft) × Goes item u v
+abbrev pub TakesUndoSteps : UndoLeft → Result UndoTurn StoreFault → ℕ → ℕ → Type 0
+TakesUndoSteps u (Ok Over) old new = new ≡ old
+TakesUndoSteps u (Ok Undone) old new = (item : UndoItem) × (v : UndoLeft) × Goes item u v
     × (new ≡ old + steps_for item)
-TakesSteps u (Err e) old new = new ≤ old + 2
+TakesUndoSteps u (Err e) old new = new ≤ old + 2
 
 -- ---- in a state that may be a database's
 
@@ -106,7 +106,7 @@ pub record Undoes (u v : UndoLeft) (s t : State) : Type 0 where
   pub acts : DoesNext item s t
 
 -- So a turn ends, or nothing was left; or the disk failed.
-abbrev pub EndsTurn : UndoLeft → UndoLeft → State → State → Result UndoTurn StoreFault → Type 0
-EndsTurn u v s t (Ok Over) = t ≡ s
-EndsTurn u v s t (Ok Undone) = Undoes u v s t
-EndsTurn u v s t (Err e) = e ≡ Fault
+abbrev pub EndsUndoTurn : UndoLeft → UndoLeft → State → State → Result UndoTurn StoreFault → Type 0
+EndsUndoTurn u v s t (Ok Over) = t ≡ s
+EndsUndoTurn u v s t (Ok Undone) = Undoes u v s t
+EndsUndoTurn u v s t (Err e) = e ≡ Fault

@@ -13,7 +13,7 @@ ghost use Rattle.ctr_rollback.specs.stops_World.{KeepsWorld};
 ghost use Rattle.ctr_rollback.specs.page_turns_Turns.{LogsAtRest};
 ghost use Rattle.ctr_rollback.specs.page_turns_Acts.{ActsBy};
 ghost use Rattle.ctr_undo.specs.declared.list.UndoItem.{UndoItem};
-ghost use Rattle.ctr_undo.specs.Left.{UndoLeft, left_in, IsOver, Goes};
+ghost use Rattle.ctr_undo.specs.Left.{UndoLeft, left_in, IsUndoOver, Goes};
 ghost use Rattle.ctr_undo.specs.Turns.{MayUndo, Undoes};
 ghost use Rattle.ctr_undo.specs.Series.{LeadsOn};
 ghost use Rattle.ctr_undo.specs.Keeping.{list_of, undone_to, IsOfTable, name_undone, names_undone, IsNameKept, IsNameReleased, released_to};
@@ -30,7 +30,7 @@ use ctr_rollback::{
 pub fn undo_takes_a_turn_an_item()
     ensures one { (item : UndoItem) (u v : UndoLeft) → Goes item u v → left_in u ≡ left_in v + 1 }
     ensures left { (n : ℕ) (u v : UndoLeft) → LeadsOn n u v → left_in u ≡ left_in v + n }
-    ensures all { (n : ℕ) (u v : UndoLeft) → LeadsOn n u v → IsOver v → n ≡ left_in u }
+    ensures all { (n : ℕ) (u v : UndoLeft) → LeadsOn n u v → IsUndoOver v → n ≡ left_in u }
 {}
 
 /// In a World undo may take a turn, whatever sessions have done, and the turn keeps the World. No entry is made, unless the item that is

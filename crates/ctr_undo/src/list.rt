@@ -3,7 +3,7 @@ ghost use Rattle.std.specs.Prelude.{◌≡◌, length, IfOk, IfSome};
 ghost use Rattle.ctr_area.specs.Images.{undo_size};
 ghost use Rattle.ctr_area.specs.Sound.{xids_in};
 ghost use Rattle.ctr_undo.specs.declared.list.UndoItem.{UndoItem};
-ghost use Rattle.ctr_undo.specs.Left.{UndoLeft, left_in, IsOver, Goes, IsNext, ItemsFit, NextFits};
+ghost use Rattle.ctr_undo.specs.Left.{UndoLeft, left_in, IsUndoOver, Goes, IsNextLeft, ItemsFit, NextFits};
 
 use ctr_meta::Meta;
 use ctr_rec::SlogItem;
@@ -79,7 +79,7 @@ impl UndoList {
 
     /// What is undone next, or none where nothing is left.
     pub fn next(&self) -> Option<UndoItem>
-        ensures next { IsNext self.now result }
+        ensures next { IsNextLeft self.now result }
         // An item is of a page or of an entry of the catalog that there may be.
         ensures fits { IfSome result NextFits }
     {

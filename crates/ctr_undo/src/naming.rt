@@ -10,7 +10,7 @@ ghost use Rattle.ctr_names.specs.Held.{names_of_items};
 ghost use Rattle.ctr_record_effects.specs.States.{pages_in, area_in};
 ghost use Rattle.ctr_record_effects.specs.Standing.{IsDatabaseState};
 ghost use Rattle.ctr_walk.specs.Damage.{searched, EndsOnPage, ReadsPages};
-ghost use Rattle.ctr_undo.specs.Naming.{name_said, GivesName, NameSaid, name_read, listed, answered, named_by};
+ghost use Rattle.ctr_undo.specs.Naming.{name_said, GivesName, NameSaid, name_read, name_listed, answered, named_by};
 
 use crate::list::UndoList;
 use ctr_base::Origin;
@@ -129,7 +129,7 @@ fn name_of<D: Disk, O: Origin>(
 
 // A name that was found goes behind others.
 fn push(names: &mut Vec<Name>, found: Option<Name>) -> Result<(), NamesRefusal>
-    ensures added { OnOk result (names.new.items ≡ names.old.items ++ listed found) }
+    ensures added { OnOk result (names.new.items ≡ names.old.items ++ name_listed found) }
     ensures refused { IfErr result (λ e. e ≡ NamesRefusal.OutOfMemory) }
 {
     match found {
@@ -150,7 +150,7 @@ fn add<D: Disk, O: Origin>(
 ) -> Result<(), NamesRefusal>
     requires going { store.old.stopped ≡ false }
     requires fits { ItemFits item }
-    ensures added { WhereSound O.first D.Disk (OnOk result (names.new.items ≡ names.old.items ++ listed (name_read (area_in store.old.now) item))) }
+    ensures added { WhereSound O.first D.Disk (OnOk result (names.new.items ≡ names.old.items ++ name_listed (name_read (area_in store.old.now) item))) }
     ensures undamaged { WhereSound O.first D.Disk (IsDatabaseState store.old.now → IfErr result (λ e. (e ≡ NamesRefusal.OutOfMemory) ⊎ (e ≡ NamesRefusal.Store StoreFault.Fault))) }
     ensures leaves { ReadsPages O.first D.Disk store.old store.new (named_by result) }
 {

@@ -3,7 +3,7 @@ ghost use Rattle.std.specs.Prelude.{◌≡◌, false, OnOk};
 ghost use Rattle.ctr_base.specs.Base.{WhereSound};
 ghost use Rattle.ctr_walk.specs.OneRecord.{HasRoomForOne};
 ghost use Rattle.ctr_rollback.specs.page_turns_Rooms.{AddsItems};
-ghost use Rattle.ctr_undo.specs.Turns.{LogsNext, TakesNext, MayUndo, EndsTurn, TakesSteps};
+ghost use Rattle.ctr_undo.specs.Turns.{LogsNext, TakesNextItem, MayUndo, EndsUndoTurn, TakesUndoSteps};
 
 use crate::calls::undo_next;
 use crate::list::UndoList;
@@ -34,13 +34,13 @@ pub fn turn<D: Disk, O: Origin, L: Ledger>(
     // The record of what is next is logged, or why not; where nothing is left the store is as it was.
     ensures one { LogsNext O.first D.Disk list.old store.old store.new result }
     // What is next goes from the list; it is over exactly where nothing is left.
-    ensures takes { TakesNext list.old list.new result }
+    ensures takes { TakesNextItem list.old list.new result }
     // It is the action that undoes it, which owes nothing more; it is refused for no other cause than that the disk failed.
-    ensures undoes { WhereSound O.first D.Disk (MayUndo list.old store.old.now → EndsTurn list.old list.new store.old.now store.new.now result) }
+    ensures undoes { WhereSound O.first D.Disk (MayUndo list.old store.old.now → EndsUndoTurn list.old list.new store.old.now store.new.now result) }
     // The room of the tables is there still, and no number is drawn.
     ensures going { OnOk result (store.new.stopped ≡ false) }
     ensures left { OnOk result (AddsItems 0 store.old.meta store.new.meta) }
-    ensures steps { TakesSteps list.old result steps.old steps.new }
+    ensures steps { TakesUndoSteps list.old result steps.old steps.new }
 {
     the_latest_item_can_be_undone();
     match list.next() {

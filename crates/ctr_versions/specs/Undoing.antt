@@ -1,5 +1,5 @@
--- Laws of what undo and the cleaner do record by record: a chain of a name gives way to another, one
--- that nobody has is marked, a table that no name is loses rows. The state that is shown stays.
+-- Laws of what undo and the cleaner do record by record: a chain of a name gives way to another,
+-- one that nobody has is marked, a table that no name is loses rows. The state that is shown stays.
 use Rattle.std.specs.Prelude.{◌≡◌, ◌⊎◌, ℕ, ◌≤◌, ℤ, true, T, List, [], ◌∷◌, map, Option, Some, None}
 use Rattle.std.specs.List.{AllByRecursion}
 use Rattle.std.specs.Ordering.{nat_cmp, int_cmp}

@@ -19,7 +19,7 @@ use Rattle.ctr_record_effects.specs.page_Damage.{from_1_check, firsts_check, col
 use Rattle.ctr_record_effects.proofs.page_Passing.{from_1_holds}
 use Rattle.ctr_record_effects.proofs.page_Holding.{most_ok}
 use Rattle.ctr_record_effects.proofs.area_Bytes.{length-piece}
-use Rattle.ctr_walk.specs.Columns.{AreNamed}
+use Rattle.ctr_walk.specs.Columns.{HaveNames}
 
 pub both_ok : (r s : Result ⊤ BadRecord) → (r >>= λ _. s) ≡ Ok tt → (r ≡ Ok tt) × (s ≡ Ok tt)
 both_ok (Ok x) s e = (refl, e)
@@ -121,7 +121,7 @@ entry_columns counted n page inside e used =
       long = length-piece start 256 page inside;
     }
 
-pub are_named : (bytes : List ℕ) → HasColumns bytes → AreNamed bytes
+pub are_named : (bytes : List ℕ) → HasColumns bytes → HaveNames bytes
 are_named bytes has = record { few = has.few; names = names }
   where
     names : (i : ℕ) → i < field 1 34 bytes → (1 ≤ field 1 (34 + 1 + 18 * i) bytes) × (field 1 (34 + 1 + 18 * i) bytes ≤ 16)

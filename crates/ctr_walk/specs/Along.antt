@@ -1,5 +1,5 @@
--- A search along a chain of pages: each page is checked as it is read, and the search ends at the first
--- place that is sought, or at the first damage.
+-- A search along a chain of pages: each page is checked as it is read, and the search ends at the
+-- first place that is sought, or at the first damage.
 use Rattle.std.specs.Prelude.{◌≡◌, ◌≢◌, ◌⊎◌, ℕ, zero, suc, List, Option, None, Some, Result, Ok, Err}
 use Rattle.ctr_store.specs.rec_BadRecord.{BadRecord}
 use Rattle.ctr_record_effects.specs.page_Chain.{Chain}
@@ -17,7 +17,8 @@ pub record ChainSought : Type 1 where
   pub counted : ℕ
   pub ends : List ℕ → Result (Option ℕ) BadRecord → Type 0
 
--- Where the search of a page ends: at the damage of its header; or this passes, and it ends behind it.
+-- Where the search of a page ends: at the damage of its header; or this passes, and it ends behind
+-- it.
 abbrev pub EndsPage : ChainSought → List ℕ → Result (Option ℕ) BadRecord → Type 0
 EndsPage s page result =
     ((bad : BadRecord) × (header_check s.chain s.counted page ≡ Err bad) × (result ≡ Err bad))

@@ -4,7 +4,7 @@ use Rattle.ctr_bytes.specs.Fields.{field}
 use Rattle.ctr_record_effects.specs.page_table_TheConstants.{NAME_MOST, COLUMNS_AT, COLUMN_SIZE, MOST_COLUMNS}
 
 -- There are at most 8 columns, and each has a name, of 1 to 16 bytes.
-pub record AreNamed (bytes : List ℕ) : Type 0 where
+pub record HaveNames (bytes : List ℕ) : Type 0 where
   pub few : field 1 COLUMNS_AT bytes ≤ MOST_COLUMNS
   pub names : (i : ℕ) → i < field 1 COLUMNS_AT bytes
       → (1 ≤ field 1 (COLUMNS_AT + 1 + COLUMN_SIZE * i) bytes)

@@ -33,7 +33,8 @@ EndsOnPage p Ends (Ok x) = Ends (Ok x)
 EndsOnPage p Ends (Err (OnPage q bad)) = (q ≡ p) × Ends (Err bad)
 EndsOnPage p Ends (Err (TooLong last most)) = ⊥
 
--- the page that damage is told of: the one that it stands on, or the last of a chain that is too long
+-- the page that damage is told of: the one that it stands on, or the last of a chain that is too
+-- long
 abbrev pub damaged_page : BadChain → ℕ
 damaged_page (OnPage p bad) = p
 damaged_page (TooLong last most) = last
@@ -48,16 +49,16 @@ damage_behind home (TooLong last most) = Damaged (damage_of Pages home most (mos
 abbrev pub damage_told : {D : Type 0} → Ghosts D → View D → BadChain → StoreFault
 damage_told g v bad = damage_behind (page_home g (damaged_page bad) v) bad
 
--- What a call answers that ends so: what was found, or damage as it is told. A fault of the disk says
--- nothing of pages.
+-- What a call answers that ends so: what was found, or damage as it is told. A fault of the disk
+-- says nothing of pages.
 abbrev pub EndsTold : {B T : Type 0} → (B → StoreFault) → (Result T B → Type 0)
     → Result T StoreFault → Type 0
 EndsTold told Ends (Ok x) = Ends (Ok x)
 EndsTold told Ends (Err Fault) = Unit {0}
 EndsTold {B} told Ends (Err (Damaged d)) = (bad : B) × Ends (Err bad) × (told bad ≡ Damaged d)
 
--- What was found is answered. Damage is answered by an error, which under this premise tells it, unless
--- the disk failed.
+-- What was found is answered. Damage is answered by an error, which under this premise tells it,
+-- unless the disk failed.
 abbrev pub TellsFound : {T : Type 0} → Type 0 → (BadChain → StoreFault) → Result T SearchFault
     → Result T StoreFault → Type 0
 TellsFound Known told (Ok x) result = result ≡ Ok x
@@ -65,8 +66,8 @@ TellsFound Known told (Err (Bad bad)) result =
     (e : StoreFault) × (result ≡ Err e) × (Known → (e ≡ Fault) ⊎ (e ≡ told bad))
 TellsFound Known told (Err (Store e)) result = result ≡ Err e
 
--- What a call leaves that reads pages. Where it tells damage, that is one that reading was answered; or it
--- was found on a page that was read, and the store goes on.
+-- What a call leaves that reads pages. Where it tells damage, that is one that reading was
+-- answered; or it was found on a page that was read, and the store goes on.
 abbrev pub ReadsPages : {D T : Type 0} → Image → Ghosts D → View D → View D → Result T StoreFault
     → Type 0
 ReadsPages first g a b (Ok x) = LeavesPage first g a b (Ok x)

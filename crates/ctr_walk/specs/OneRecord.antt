@@ -29,7 +29,8 @@ pub record IsUnfit {D : Type 0} (r : Record) (a b : View D) (e : StoreFault) : T
   pub going : b.stopped ≡ false
   pub none : Logs [] a b
 
--- Why the record wasn't logged: it doesn't fit, or the disk failed, after which the store is stopped.
+-- Why the record wasn't logged: it doesn't fit, or the disk failed, after which the store is
+-- stopped.
 abbrev pub WhyNotLogged : {D : Type 0} → Record → View D → View D → StoreFault → Type 0
 WhyNotLogged r a b e = IsUnfit r a b e ⊎ ((e ≡ Fault) × (b.stopped ≡ true))
 

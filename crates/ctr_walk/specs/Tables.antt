@@ -50,8 +50,8 @@ first_said chain page = first_among (firsts_of (entry_at (entry_number chain) pa
 abbrev pub chain_table_check : ℕ → Chain → List ℕ → Result ⊤ BadRecord
 chain_table_check counted chain page = entry_check counted (ENTRY_SIZE * entry_number chain) page
 
--- What a page of the catalog says of a chain: the check of the table's entry fails; or it passes, and the
--- chain has no page; or it has a first page, and so many columns behind the key hold this.
+-- What a page of the catalog says of a chain: the check of the table's entry fails; or it passes,
+-- and the chain has no page; or it has a first page, and so many columns behind the key hold this.
 abbrev pub ChainSaid : ℕ → Chain → List ℕ → Result (Option ChainPages) BadRecord → Type 0
 ChainSaid counted chain page (Err bad) = chain_table_check counted chain page ≡ Err bad
 ChainSaid counted chain page (Ok None) =
@@ -65,8 +65,8 @@ abbrev pub IsFirstPage : ℕ → Option ℕ → Type 0
 IsFirstPage first None = first ≡ 0
 IsFirstPage first (Some p) = (first ≢ 0) × (p ≡ first)
 
--- What is said of a chain's first page: the check of the table's entry fails; or it passes, and the page is
--- this one, or there is none.
+-- What is said of a chain's first page: the check of the table's entry fails; or it passes, and the
+-- page is this one, or there is none.
 abbrev pub FirstSaid : Result ⊤ BadRecord → ℕ → Result (Option ℕ) BadRecord → Type 0
 FirstSaid check first (Err bad) = check ≡ Err bad
 FirstSaid check first (Ok found) = (check ≡ Ok tt) × IsFirstPage first found
@@ -77,8 +77,8 @@ PagesFit counted found = (found.first ≢ 0) × (found.first < counted) × (foun
 
 -- ---- in a store
 
--- where the search of a page ends, by the kinds of the columns behind the key, and where so many pages
--- are counted
+-- where the search of a page ends, by the kinds of the columns behind the key, and where so many
+-- pages are counted
 abbrev pub EndsByKinds : Type 1
 EndsByKinds = List Kind → ℕ → List ℕ → Result (Option ℕ) BadRecord → Type 0
 
@@ -94,8 +94,8 @@ chain_sought pages counted chain ends = record {
 abbrev pub first_of_chain : Area → Chain → ℕ
 first_of_chain area chain = first_among (area.firsts (chain_entry chain)) chain
 
--- Where the search of a chain ends: at the damage of the table's entry; or the entry passes, and it ends
--- along the chain.
+-- Where the search of a chain ends: at the damage of the table's entry; or the entry passes, and it
+-- ends along the chain.
 abbrev pub EndsChain : ℕ → (ℕ → List ℕ) → Chain → EndsByKinds → Result (Option Place) BadChain
     → Type 0
 EndsChain counted pages chain ends result =
@@ -105,8 +105,8 @@ EndsChain counted pages chain ends result =
     × EndsAlong (chain_sought pages counted chain ends) pages (most_in_chain counted) 0
     (first_of_chain (area_of pages) chain) result)
 
--- Where a call ends that asks for the first page of a chain: at the damage of the table's entry, on its page
--- of the catalog; or the entry passes, and the page is the one that the area has.
+-- Where a call ends that asks for the first page of a chain: at the damage of the table's entry, on
+-- its page of the catalog; or the entry passes, and the page is the one that the area has.
 abbrev pub EndsFirst : ℕ → (ℕ → List ℕ) → Chain → Result (Option ℕ) BadChain → Type 0
 EndsFirst counted pages chain result =
     EndsOnPage (1 + chain_entry chain / 16)

@@ -32,7 +32,7 @@ use Rattle.ctr_reading.specs.chain_Visible.{visible_row}
 use Rattle.ctr_names.specs.Search.{IsEntryFound}
 use Rattle.ctr_reading.specs.catalog_Columns.{columns_there}
 use Rattle.ctr_area.specs.Images.{is_live}
-use Rattle.ctr_reading.specs.Reading.{IsSeen}
+use Rattle.ctr_reading.specs.Reading.{IsRowSeen}
 use Rattle.ctr_wishes.proofs.Good.{IsGood, IfGood}
 use Rattle.ctr_wishes.proofs.Suiting.{RowSuits, slot_suits, older_suits}
 
@@ -147,7 +147,7 @@ module _ (s : State) (sound : IsDatabaseState s) (e : ℕ) where
         chain_good cs (area.slot at).key test (chain_of area.older (area.slot at)) (front.0, all_both (SaysGood cs (area.slot at).key) (if_any (area.slot at).previous) (map (λ q. (area.older q).version) (along area at)) front.1 behind)
 
     -- and so is the row of a key
-    pub seen_good : (test : ℕ → Bool) (key : ℤ) (row : Option Row) → IsSeen test area e key row → IfGood cs key row
+    pub seen_good : (test : ℕ → Bool) (key : ℤ) (row : Option Row) → IsRowSeen test area e key row → IfGood cs key row
     seen_good test key row (inl (at, used, same, shown)) seen is = subst (λ k. IsGood cs k seen) same (visible_good test at used seen (sym shown ∙ is))
     seen_good test key row (inr (none, isnt)) seen is = absurd_some seen (sym isnt ∙ is)
 

@@ -14,7 +14,7 @@ use Rattle.ctr_reading.specs.catalog_SchemaRefusal.TheVariants as without
 use Rattle.ctr_reading.specs.catalog_Columns.{columns_there}
 use Rattle.ctr_reading.specs.chain_ReadRefusal.{ReadRefusal}
 use Rattle.ctr_reading.specs.chain_ReadRefusal.TheVariants as unread
-use Rattle.ctr_reading.specs.Reading.{IsSeen}
+use Rattle.ctr_reading.specs.Reading.{IsRowSeen}
 use Rattle.ctr_wishes.specs.declared.making.Prepared.{Prepared}
 use Rattle.ctr_wishes.specs.declared.making.Prepared.TheVariants.{Refused}
 use Rattle.ctr_wishes.specs.Heads.{IsWished}
@@ -42,7 +42,7 @@ pub record IsMadeOf (test : ℕ → Bool) (area : Area) (e : ℕ) (statement : S
   pub written : key_written statement ≡ Some key
   pub wide : FitsSigned w64 key
   pub columns : ColumnsFit cs
-  pub seen : IsSeen test area e key row
+  pub seen : IsRowSeen test area e key row
   pub wished : IsWished cs statement row p
 
 -- that, where the entry has columns; where it is free there is no table

@@ -7,7 +7,7 @@ ghost use Rattle.ctr_record_effects.specs.States.{area_in};
 ghost use Rattle.ctr_record_effects.specs.Standing.{HasSoundArea, IsDatabaseState};
 ghost use Rattle.ctr_reading.specs.walk_Damage.{ReadsPages};
 ghost use Rattle.ctr_reading.specs.catalog_Columns.{columns_there};
-ghost use Rattle.ctr_reading.specs.Reading.{as_told, sees, IsDiskOrMemory};
+ghost use Rattle.ctr_reading.specs.Reading.{as_told, sight_sees, IsDiskOrMemory};
 ghost use Rattle.ctr_wishes.specs.Preparing.{schema_read, columns_read, IsPrepared};
 
 use crate::making::{Prepared, wished};
@@ -66,7 +66,7 @@ pub fn prepare<D: Disk, O: Origin>(
     requires writes { is_some (key_written statement.now) ≡ true }
     // It is what the statement comes to, by the columns of the table and the row that is seen.
     ensures prepared { WhereSound O.first D.Disk (HasSoundArea store.old.now
-        → IfOk result (IsPrepared (sees store.old.now.tables sight.now) (area_in store.old.now) entry statement.now)) }
+        → IfOk result (IsPrepared (sight_sees store.old.now.tables sight.now) (area_in store.old.now) entry statement.now)) }
     // It is refused for no other cause than that the disk failed, or for want of memory.
     ensures refused { WhereSound O.first D.Disk (IsDatabaseState store.old.now → IfErr result IsDiskOrMemory) }
     // It logs nothing; and a fault is told where the disk counts one more, by `a_fault_of_reading_is_counted`.

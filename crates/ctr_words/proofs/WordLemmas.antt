@@ -20,8 +20,8 @@ use Rattle.clap.specs.declared.parser.matches.ArgMatches.{ArgMatches}
 use Rattle.clap.proofs.ValueTestLemmas.{Accepts-accepts, accepts-Accepts}
 use Rattle.ctr_words.specs.declared.words.Subcommand.{Subcommand}
 use Rattle.ctr_words.specs.declared.words.Subcommand.TheVariants as asked
-use Rattle.ctr_words.specs.Words.{asks_threads, command_asked, frames_asked, has_folder, load_asked, number_asked, number_in, command_named, simple_command, unless_fault, AreInRange}
-use Rattle.ctr_words.specs.Read.{is_number, IsRead}
+use Rattle.ctr_words.specs.Words.{asks_threads, command_asked, frames_asked, has_folder, load_asked, number_of_option, number_of_digits, command_named, simple_command, unless_fault, AreInRange}
+use Rattle.ctr_words.specs.Read.{is_number, IsRunRead}
 use Rattle.ctr_words.proofs.FaultFree.{Fine, frames_filled, run_fine}
 
 abbrev wanted : Option (Text × List Row) → Bool → Kinds → Option Subcommand
@@ -45,7 +45,7 @@ refused words kind folder among =
 
 -- a text that is a number of 8 to 4,096 reads as that number
 one_read : (text : Text) (r : Option ℕ) → ReadsOne (λ bs x. ParsesUnsigned 16 10 bs x × ExplainsUnsignedError 10 bs x × HasUnsignedDigitsIfOk bs x) text r
-    → is_unsigned_in 8 4096 text ≡ true → r ≡ Some (number_in text)
+    → is_unsigned_in 8 4096 text ≡ true → r ≡ Some (number_of_digits text)
 one_read text (Some n) read number = ap Some read.0.1
 one_read text None read number =
     let accepted = accepts-Accepts false (Unsigned 8 4096) text number in
@@ -56,10 +56,10 @@ pub frames_read : (text : Option Text) (rows : List Row) (r : Option ℕ) → te
     → ((t : Text) → text ≡ Some t → ReadsOne (λ bs x. ParsesUnsigned 16 10 bs x × ExplainsUnsignedError 10 bs x × HasUnsignedDigitsIfOk bs x) t r)
     → is_number rows ≡ true → unwrap_or r 64 ≡ frames_asked rows
 frames_read None rows r same none some number =
-    ap (λ o. unwrap_or o 64) (none refl) ∙ ap (λ o. option_map_or number_in o 64) same
+    ap (λ o. unwrap_or o 64) (none refl) ∙ ap (λ o. option_map_or number_of_digits o 64) same
 frames_read (Some t) rows r same none some number =
     let told : is_unsigned_in 8 4096 t ≡ true = ap (λ o. option_map_or (is_unsigned_in 8 4096) o true) same ∙ number in
-    ap (λ o. unwrap_or o 64) (one_read t r (some t refl) told) ∙ ap (λ o. option_map_or number_in o 64) same
+    ap (λ o. unwrap_or o 64) (one_read t r (some t refl) told) ∙ ap (λ o. option_map_or number_of_digits o 64) same
 
 -- what is read of a flag is what the rows ask for
 pub threads_read : (E : Type 0) (text : Option Text) (rows : List Row) (r : Option Bool) → text ≡ one_of (codes "threads") rows → (text ≡ None → r ≡ None)
@@ -132,10 +132,10 @@ fine_number (r ∷ rs) fine = pick (bytes_eq r.id (codes "frames")) refl (fine_n
     pick false is later = later
 
 -- so it is read
-pub all_read : (words : List Text) → fault_of simple_command words ≡ [] → IfSome (subcommand_of simple_command words) IsRead
+pub all_read : (words : List Text) → fault_of simple_command words ≡ [] → IfSome (subcommand_of simple_command words) IsRunRead
 all_read words fault = go (subcommand_of simple_command words) refl
   where
-    go : (o : Option (Text × List Row)) → subcommand_of simple_command words ≡ o → IfSome o IsRead
+    go : (o : Option (Text × List Row)) → subcommand_of simple_command words ≡ o → IfSome o IsRunRead
     go None is = tt
     go (Some met) is = λ run. fine_number met.1 (run_fine words fault met is run)
 
@@ -144,29 +144,29 @@ all_read words fault = go (subcommand_of simple_command words) refl
 asked_fits : (rows : List Row) → is_number rows ≡ true → (threads : Bool) → AreInRange (asked.Run (frames_asked rows) threads)
 asked_fits rows number threads = go (one_of (codes "frames") rows) number
   where
-    go : (o : Option Text) → option_map_or (is_unsigned_in 8 4096) o true ≡ true → AreInRange (asked.Run (option_map_or number_in o 64) threads)
+    go : (o : Option Text) → option_map_or (is_unsigned_in 8 4096) o true ≡ true → AreInRange (asked.Run (option_map_or number_of_digits o 64) threads)
     go None e = (omega arith, omega arith)
     go (Some text) e =
         let accepted = accepts-Accepts false (Unsigned 8 4096) text e in
         (accepted.2, accepted.3)
 
-number_fits : (name : Text) (least most n : ℕ) (rows : List Row) → number_asked name least most rows ≡ Some n → (least ≤ n) × (n ≤ most)
+number_fits : (name : Text) (least most n : ℕ) (rows : List Row) → number_of_option name least most rows ≡ Some n → (least ≤ n) × (n ≤ most)
 number_fits name least most n rows is = by_text (one_of name rows) is
   where
-    by_text : (o : Option Text) → option_and_then (λ t. if is_unsigned_in least most t then Some (number_in t) else None) o ≡ Some n → (least ≤ n) × (n ≤ most)
+    by_text : (o : Option Text) → option_and_then (λ t. if is_unsigned_in least most t then Some (number_of_digits t) else None) o ≡ Some n → (least ≤ n) × (n ≤ most)
     by_text None e = absurd cc
     by_text (Some t) e = pick (is_unsigned_in least most t) refl e
       where
-        pick : (b : Bool) → is_unsigned_in least most t ≡ b → (if b then Some (number_in t) else None) ≡ Some n → (least ≤ n) × (n ≤ most)
+        pick : (b : Bool) → is_unsigned_in least most t ≡ b → (if b then Some (number_of_digits t) else None) ≡ Some n → (least ≤ n) × (n ≤ most)
         pick true told same =
             let accepted = accepts-Accepts false (Unsigned least most) t told in
-            let here : number_in t ≡ n = cc in
+            let here : number_of_digits t ≡ n = cc in
             (subst (λ m. least ≤ m) here accepted.2, subst (λ m. m ≤ most) here accepted.3)
         pick false told same = absurd cc
 
 load_fits : (rows : List Row) (s : Subcommand) → load_asked rows ≡ Some s → AreInRange s
 load_fits rows s is =
-    go (number_asked (codes "frames") 8 4096 rows) (number_asked (codes "sessions") 1 8 rows) (number_asked (codes "count") 0 1000000 rows) (number_asked (codes "seed") 0 18446744073709551615 rows)
+    go (number_of_option (codes "frames") 8 4096 rows) (number_of_option (codes "sessions") 1 8 rows) (number_of_option (codes "count") 0 1000000 rows) (number_of_option (codes "seed") 0 18446744073709551615 rows)
     (λ n e. number_fits (codes "frames") 8 4096 n rows e) (λ n e. number_fits (codes "sessions") 1 8 n rows e) (λ n e. number_fits (codes "count") 0 1000000 n rows e) is
   where
     go : (frames sessions count seed : Option ℕ) → ((n : ℕ) → frames ≡ Some n → (8 ≤ n) × (n ≤ 4096)) → ((n : ℕ) → sessions ≡ Some n → (1 ≤ n) × (n ≤ 8)) → ((n : ℕ) → count ≡ Some n → (0 ≤ n) × (n ≤ 1000000))
@@ -181,7 +181,7 @@ load_fits rows s is =
         let here : asked.Load n (asks_threads rows) a b c ≡ s = cc in
         subst AreInRange here ((f n refl).0, (f n refl).1, (g a refl).0, (g a refl).1, (h b refl).1)
 
-named_fits : (met : Text × List Row) (s : Subcommand) → IsRead met → command_named met ≡ Some s → AreInRange s
+named_fits : (met : Text × List Row) (s : Subcommand) → IsRunRead met → command_named met ≡ Some s → AreInRange s
 named_fits met s read is = go (bytes_eq met.0 (codes "init")) (bytes_eq met.0 (codes "run")) (bytes_eq met.0 (codes "load")) (bytes_eq met.0 (codes "report")) refl is
   where
     go : (init run load report : Bool) → bytes_eq met.0 (codes "run") ≡ run
@@ -203,21 +203,21 @@ named_fits met s read is = go (bytes_eq met.0 (codes "init")) (bytes_eq met.0 (c
 -- a number that is read, and lies in a range, is what the rows ask for
 pub number_read : (least most : ℕ) (text : Option Text) (rows : List Row) (name : Text) (r : Option ℕ) → text ≡ one_of name rows → (text ≡ None → r ≡ None)
     → ((t : Text) → text ≡ Some t → ReadsOne (λ bs x. ParsesUnsigned 64 10 bs x × ExplainsUnsignedError 10 bs x × HasUnsignedDigitsIfOk bs x) t r)
-    → option_and_then (λ n. if nat_le least n && nat_le n most then Some n else None) r ≡ number_asked name least most rows
+    → option_and_then (λ n. if nat_le least n && nat_le n most then Some n else None) r ≡ number_of_option name least most rows
 number_read least most None rows name r same none some =
-    ap (option_and_then (λ n. if nat_le least n && nat_le n most then Some n else None)) (none refl) ∙ ap (option_and_then (λ t. if is_unsigned_in least most t then Some (number_in t) else None)) same
+    ap (option_and_then (λ n. if nat_le least n && nat_le n most then Some n else None)) (none refl) ∙ ap (option_and_then (λ t. if is_unsigned_in least most t then Some (number_of_digits t) else None)) same
 number_read least most (Some t) rows name r same none some =
-    by_read r (some t refl) ∙ ap (option_and_then (λ t. if is_unsigned_in least most t then Some (number_in t) else None)) same
+    by_read r (some t refl) ∙ ap (option_and_then (λ t. if is_unsigned_in least most t then Some (number_of_digits t) else None)) same
   where
     by_read : (r : Option ℕ) → ReadsOne (λ bs x. ParsesUnsigned 64 10 bs x × ExplainsUnsignedError 10 bs x × HasUnsignedDigitsIfOk bs x) t r
-        → option_and_then (λ n. if nat_le least n && nat_le n most then Some n else None) r ≡ (if is_unsigned_in least most t then Some (number_in t) else None)
+        → option_and_then (λ n. if nat_le least n && nat_le n most then Some n else None) r ≡ (if is_unsigned_in least most t then Some (number_of_digits t) else None)
     by_read (Some n) read = pick (nat_le least n) (nat_le n most) (is_unsigned_in least most t) refl refl refl
       where
-        value : n ≡ number_in t
+        value : n ≡ number_of_digits t
         value = read.0.1
 
         pick : (low high passes : Bool) → nat_le least n ≡ low → nat_le n most ≡ high → is_unsigned_in least most t ≡ passes
-            → (if low && high then Some n else None) ≡ (if passes then Some (number_in t) else None)
+            → (if low && high then Some n else None) ≡ (if passes then Some (number_of_digits t) else None)
         pick true true true l h p = ap Some value
         pick true true false l h p =
             let accepted = Accepts-accepts false (Unsigned least most) t (read.0.0.0, read.0.0.1, subst (λ m. least ≤ m) value (leb-true least n l), subst (λ m. m ≤ most) value (leb-true n most h)) in
@@ -232,7 +232,7 @@ number_read least most (Some t) rows name r same none some =
         pick false high false l h p = refl
     by_read None read = pick (is_unsigned_in least most t) refl
       where
-        pick : (passes : Bool) → is_unsigned_in least most t ≡ passes → None ≡ (if passes then Some (number_in t) else None)
+        pick : (passes : Bool) → is_unsigned_in least most t ≡ passes → None ≡ (if passes then Some (number_of_digits t) else None)
         pick true p =
             let accepted = accepts-Accepts false (Unsigned least most) t p in
             absurd (read.1.0 (accepted.0, accepted.1))
@@ -243,7 +243,7 @@ pub fits : (words : List Text) (s : Subcommand) → command_asked words ≡ Some
 fits words s is = go (has_folder words) (fault_of simple_command words) (subcommand_of simple_command words) refl (all_read words) is
   where
     go : (folder : Bool) (kinds : Kinds) (met : Option (Text × List Row)) → fault_of simple_command words ≡ kinds
-        → (fault_of simple_command words ≡ [] → IfSome met IsRead) → wanted met folder kinds ≡ Some s → AreInRange s
+        → (fault_of simple_command words ≡ [] → IfSome met IsRunRead) → wanted met folder kinds ≡ Some s → AreInRange s
     go true [] (Some met) fault read same = named_fits met s (read fault) same
     go true [] None fault read same = cc
     go true (k ∷ kinds) met fault read same = cc

@@ -10,5 +10,5 @@ abbrev pub is_number : List Row → Bool
 is_number rows = option_map_or (is_unsigned_in 8 4096) (one_of (codes "frames") rows) true
 
 -- if it is a run that was met, so have its rows
-abbrev pub IsRead : Text × List Row → Type 0
-IsRead met = bytes_eq met.0 (codes "run") ≡ true → is_number met.1 ≡ true
+abbrev pub IsRunRead : Text × List Row → Type 0
+IsRunRead met = bytes_eq met.0 (codes "run") ≡ true → is_number met.1 ≡ true

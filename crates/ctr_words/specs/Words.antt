@@ -80,12 +80,12 @@ has_folder (command ∷ []) = false
 has_folder (command ∷ folder ∷ rest) = is_folder folder
 
 -- the number that decimal digits write; a plus may stand before them
-abbrev pub number_in : Text → ℕ
-number_in text = digits_value 10 (without_leading_plus text)
+abbrev pub number_of_digits : Text → ℕ
+number_of_digits text = digits_value 10 (without_leading_plus text)
 
 -- the frames that the rows of a run ask for: 64 where they have none
 abbrev pub frames_asked : List Row → ℕ
-frames_asked rows = option_map_or number_in (one_of (codes "frames") rows) 64
+frames_asked rows = option_map_or number_of_digits (one_of (codes "frames") rows) 64
 
 -- the rows ask for threads
 abbrev pub asks_threads : List Row → Bool
@@ -93,18 +93,19 @@ asks_threads rows =
     option_map_or (λ t. bytes_eq t (codes "true")) (one_of (codes "threads") rows) false
 
 -- the number that the rows have for an option, from one to another; none where they have none
-abbrev pub number_asked : Text → ℕ → ℕ → List Row → Option ℕ
-number_asked name least most rows =
-    option_and_then (λ t. if is_unsigned_in least most t then Some (number_in t) else None)
+abbrev pub number_of_option : Text → ℕ → ℕ → List Row → Option ℕ
+number_of_option name least most rows =
+    option_and_then (λ t. if is_unsigned_in least most t then Some (number_of_digits t) else None)
     (one_of name rows)
 
--- The load that the rows ask for, where they have its three numbers; 64 frames where they have none.
+-- The load that the rows ask for, where they have its three numbers; 64 frames where they have
+-- none.
 abbrev pub load_asked : List Row → Option Subcommand
 load_asked rows = option_and_then (λ sessions. option_and_then (λ count. option_map (λ seed.
-    asked.Load (unwrap_or (number_asked (codes "frames") 8 4096 rows) 64) (asks_threads rows)
+    asked.Load (unwrap_or (number_of_option (codes "frames") 8 4096 rows) 64) (asks_threads rows)
     sessions count seed)
-    (number_asked (codes "seed") 0 18446744073709551615 rows))
-    (number_asked (codes "count") 0 1000000 rows)) (number_asked (codes "sessions") 1 8 rows)
+    (number_of_option (codes "seed") 0 18446744073709551615 rows))
+    (number_of_option (codes "count") 0 1000000 rows)) (number_of_option (codes "sessions") 1 8 rows)
 
 -- the command of a name, with its rows
 abbrev pub command_named : Text × List Row → Option Subcommand

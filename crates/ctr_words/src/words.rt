@@ -4,9 +4,9 @@ ghost use Rattle.std.specs.String.{string_bytes};
 ghost use Rattle.clap.specs.Words.{app_of, found_of, rows_of, rule_of, subcommand_rows_of};
 ghost use Rattle.clap.specs.declared.builder.command.Command.TheViews.{out-Command as fields_of};
 ghost use Rattle.ctr_words.specs.Words.{frames_rule, threads_rule, number_rule, load_command, simple_command, has_folder};
-ghost use Rattle.ctr_words.specs.Words.{number_asked, frames_asked, asks_threads, load_asked, command_named};
+ghost use Rattle.ctr_words.specs.Words.{number_of_option, frames_asked, asks_threads, load_asked, command_named};
 ghost use Rattle.ctr_words.specs.Words.{command_asked, AsksForNothing, AreInRange};
-ghost use Rattle.ctr_words.specs.Read.{is_number, IsRead};
+ghost use Rattle.ctr_words.specs.Read.{is_number, IsRunRead};
 
 use clap::error::ErrorKind;
 use clap::{Arg, ArgAction, ArgMatches, Command};
@@ -168,7 +168,7 @@ fn within(number: Option<u64>, least: u64, most: u64) -> Option<u64>
 
 // The number of an option, in a range.
 fn number(matches: &ArgMatches<'_>, name: &str, least: u64, most: u64) -> Option<u64>
-    ensures { result ≡ number_asked name.now least most (rows_of (found_of matches.now)) }
+    ensures { result ≡ number_of_option name.now least most (rows_of (found_of matches.now)) }
 {
     within(matches.get_one(name), least, most)
 }
@@ -192,7 +192,7 @@ fn load_met(matches: &ArgMatches<'_>) -> Option<Subcommand>
 
 // The command of this name, with its matches.
 fn named(name: &str, matches: &ArgMatches<'_>) -> Option<Subcommand>
-    ensures { IsRead (name.now, rows_of (found_of matches.now)) → result ≡ command_named (name.now, rows_of (found_of matches.now)) }
+    ensures { IsRunRead (name.now, rows_of (found_of matches.now)) → result ≡ command_named (name.now, rows_of (found_of matches.now)) }
 {
     match name {
         "init" => Some(Subcommand::Init),
@@ -208,7 +208,7 @@ fn named(name: &str, matches: &ArgMatches<'_>) -> Option<Subcommand>
 
 // The command that was met.
 fn met(matches: &ArgMatches<'_>) -> Option<Subcommand>
-    ensures { IfSome (subcommand_rows_of matches.now) IsRead → result ≡ option_and_then command_named (subcommand_rows_of matches.now) }
+    ensures { IfSome (subcommand_rows_of matches.now) IsRunRead → result ≡ option_and_then command_named (subcommand_rows_of matches.now) }
 {
     let (name, below) = matches.subcommand()?;
     named(name, below)

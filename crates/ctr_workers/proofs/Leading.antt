@@ -5,7 +5,7 @@ use Rattle.std.proofs.Math.Logic.{∥∥₁_map}
 use Rattle.std.proofs.lemmas.Grind.{merely}
 use Rattle.ctr_types.specs.declared.tape.Actor.{Actor}
 use Rattle.ctr_types.specs.declared.tape.Turn.{Turn}
-use Rattle.ctr_workers.specs.Leads.{Leads, IsLedFrom}
+use Rattle.ctr_workers.specs.Leads.{LeadsByTurns, IsLedFrom}
 
 -- no turn leads from a first state to itself
 pub led_at_first : {T : Type 0} (first : T → Type 0) (asked : Actor → Type 0) (took : Actor → Turn → T → T → Type 0) (now : T) → first now → ∥ IsLedFrom first asked took now ∥₁
@@ -24,5 +24,5 @@ led_by_turn first asked took old new actor answer known turn led = ∥∥₁_map
 })
 
 -- where there is one first state, turns lead from it
-pub leads_from_one : {T : Type 0} (asked : Actor → Type 0) (took : Actor → Turn → T → T → Type 0) (start now : T) → ∥ IsLedFrom (λ t. t ≡ start) asked took now ∥₁ → ∥ Leads asked took start now ∥₁
-leads_from_one asked took start now led = ∥∥₁_map led (λ l. subst (λ t. Leads asked took t now) l.is_first l.leads)
+pub leads_from_one : {T : Type 0} (asked : Actor → Type 0) (took : Actor → Turn → T → T → Type 0) (start now : T) → ∥ IsLedFrom (λ t. t ≡ start) asked took now ∥₁ → ∥ LeadsByTurns asked took start now ∥₁
+leads_from_one asked took start now led = ∥∥₁_map led (λ l. subst (λ t. LeadsByTurns asked took t now) l.is_first l.leads)

@@ -2,8 +2,8 @@
 ghost use Rattle.std.specs.Prelude.{◌≡◌};
 ghost use Rattle.ctr_types.specs.declared.tape.Actor.{Actor as AnyActor};
 ghost use Rattle.ctr_types.specs.declared.tape.Turn.{Turn as AnyTurn};
-ghost use Rattle.ctr_workers.specs.Leads.{Leads, IsLedFrom};
-ghost use Rattle.ctr_workers.specs.Workers.{AllTake, IsAsked};
+ghost use Rattle.ctr_workers.specs.Leads.{LeadsByTurns, IsLedFrom};
+ghost use Rattle.ctr_workers.specs.Workers.{AllTake, IsAskedFor};
 
 use crate::gate::Gate;
 use crate::turns::Turns;
@@ -83,7 +83,7 @@ pub fn run_turns<R: Threads + Wait + Sync, T: Turns + Send, G: Gate + Sync>(
     gate: &G,
 ) -> T
     requires { AllTake sessions T.takes }
-    ensures { ∥ Leads (IsAsked sessions) T.took turns result ∥₁ }
+    ensures { ∥ LeadsByTurns (IsAskedFor sessions) T.took turns result ∥₁ }
 {
     run_named::<R, T, G, Brand>(rt, turns, sessions, gate)
 }

@@ -1,7 +1,7 @@
 // One worker for each actor, side by side.
 ghost use Rattle.std.specs.Prelude.{◌≡◌, ◌≤◌, ◌^◌};
 ghost use Rattle.ctr_types.specs.declared.tape.Actor.TheVariants.{Flusher, Cleaner, Undo};
-ghost use Rattle.ctr_workers.specs.Workers.{IsActor, AllTake, has_bit, is_last};
+ghost use Rattle.ctr_workers.specs.Workers.{IsActor, AllTake, has_session_bit, is_last};
 
 use crate::gate::Gate;
 use crate::turns::Turns;
@@ -53,7 +53,7 @@ fn work<R: Wait, T: Turns, G: Gate>(rt: &R, shared: &Mutex<T>, gate: &G, actor: 
 // Whether there is a session of that number.
 fn is_asked(sessions: u8, session: u8) -> bool
     requires { (1 ≤ session) × (session ≤ 8) }
-    ensures { result ≡ has_bit sessions session }
+    ensures { result ≡ has_session_bit sessions session }
 {
     (sessions >> (session - 1)) % 2 == 1
 }

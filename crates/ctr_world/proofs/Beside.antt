@@ -27,7 +27,7 @@ use Rattle.ctr_pass.specs.session_world_World.{SessionsHeld, AreInOrder, AreInTa
 use Rattle.ctr_pass.specs.exec_Runner.{Runner}
 use Rattle.ctr_pass.specs.exec_sessions_Sessions.{Sessions}
 use Rattle.ctr_pass.specs.exec_Runners.{runner_at}
-use Rattle.ctr_pass.specs.exec_Sessions.{IsReleased, IsSeatedAt, ShowsSessions, held_by}
+use Rattle.ctr_pass.specs.exec_Sessions.{IsReleased, IsSeatedAt, ShowsSessions, sessions_held_by}
 use Rattle.ctr_pass.proofs.exec_Shown.{RowsStay, seat_still}
 use Rattle.ctr_world.proofs.Titles.{recovery_is_outside, locks_still, tables_still}
 
@@ -76,7 +76,7 @@ module _ {D : Type 0} (g : Ghosts D) (c : Start) (opened : D) (a b : View D) (h 
     each : (q : ℕ) → IsOneOfEight q → IsSeatedAt c u q (runner_at q h.runners.items)
     each q one = seat_still c q w u (e ∷ []) refl (away q one, tt) sound refl (ap (λ (z : State). transaction_of z q) state_is) rows views (runner_at q h.runners.items) (ap (λ (p : Point). progress_of p q) point_is) (before.each q one)
 
-    world_now : KeepsWorld g c opened b u → InWorld g c opened b (held_by h) u
+    world_now : KeepsWorld g c opened b u → InWorld g c opened b (sessions_held_by h) u
     world_now keeps = record {
       keeps = keeps;
       run_is = before.world.run_is;
@@ -87,7 +87,7 @@ module _ {D : Type 0} (g : Ghosts D) (c : Start) (opened : D) (a b : View D) (h 
 
     pub shows_released : (now : Sessions) → IsReleased name moment h now → KeepsWorld g c opened b u → ShowsSessions g c opened b now u
     shows_released now released keeps = record {
-      world = subst (λ (z : SessionsHeld). InWorld g c opened b z u) (sym (ap held_by released.same)) (world_now keeps);
+      world = subst (λ (z : SessionsHeld). InWorld g c opened b z u) (sym (ap sessions_held_by released.same)) (world_now keeps);
       lines = ap (λ (z : Sessions). z.script.lines) released.same ∙ before.lines;
       tape = released.tape ∙ ap (λ l. l ++ e ∷ []) before.tape;
       stuck = released.stuck ∙ ap (without_name name) before.stuck ∙ sym (ap (λ (z : State). z.stuck) state_is);

@@ -24,8 +24,8 @@ use Rattle.ctr_undo.specs.Turns.{MayUndo}
 use Rattle.ctr_pass.specs.exec_sessions_Sessions.{Sessions}
 use Rattle.ctr_pass.specs.txn_Steps.{mark_in}
 use Rattle.ctr_pass.specs.session_world_Ready.{StandOver}
-use Rattle.ctr_pass.specs.exec_Order.{IsOrdered}
-use Rattle.ctr_pass.specs.exec_Sessions.{AreSeated, ShowsSessions, held_by}
+use Rattle.ctr_pass.specs.exec_Order.{IsTapeOrdered}
+use Rattle.ctr_pass.specs.exec_Sessions.{AreSeated, ShowsSessions, sessions_held_by}
 use Rattle.ctr_pass.proofs.exec_Going.{shows_behind}
 use Rattle.ctr_pass.proofs.session_world_Resting.{world_rests}
 use Rattle.ctr_pass.specs.cleaner_CleanTurn.{CleanTurn}
@@ -44,7 +44,7 @@ use Rattle.ctr_pass.specs.Sparing.{HaveNobody, IsNobodyInside, keeping_room, wit
 use Rattle.ctr_world.specs.declared.opening.Opening.{Ghosts as Opening}
 use Rattle.ctr_world.specs.Cleaning.{IsIdlePass, noted_pass}
 use Rattle.ctr_world.specs.Held.{Running}
-use Rattle.ctr_world.specs.World.{FullCountsAll, IsReady, KeepsPassIn, Shows, led_to, passed_over, start_in}
+use Rattle.ctr_world.specs.World.{FullCountsAll, IsWorldReady, KeepsPassIn, Shows, led_to, passed_over, start_in}
 
 -- ---- what it did to the store
 
@@ -153,7 +153,7 @@ module _ {D B : Type 0} (o : Opening B) (first : Image) (g : Ghosts D) (laws : L
       (ap (λ (q : State). names_of_items (area_in q).title old.undo.items) same)
       (ap (λ (q : State). q.counted) same)
       (shows_behind g c shows.opened a b old.sessions shows.mind shows.shows
-      (world_rests g c shows.opened a b (held_by old.sessions) shows.mind shows.shows.world same (laws.read c shows.opened a b shows.mind shows.shows.world.keeps rests)))
+      (world_rests g c shows.opened a b (sessions_held_by old.sessions) shows.mind shows.shows.world same (laws.read c shows.opened a b shows.mind shows.shows.world.keeps rests)))
 
   pub shows_cleaned : CleansOrPasses heeds x a.now b.now did → b.next ≡ next_cleaned did a.next → b.now.counted ≡ a.now.counted → RestsOrLogs g a b → Shows o first g s cleaned
   shows_cleaned does next counted went = ⊎_elim
@@ -170,10 +170,10 @@ module _ {D B : Type 0} (o : Opening B) (first : Image) (g : Ghosts D) (laws : L
 -- ---- whatever the disk tells
 
 module _ {D B : Type 0} (o : Opening B) (g : Ghosts D) (old : Running D) (b : View D) (item : Bool) (pass : Pass) where
-  pub ready_cleaned : IsReady o g old → StandOver (with_cleaner item old.sessions.txns) b → b.stopped ≡ false → b.now.counted ≡ old.store.now.counted → g.moment_of old.store.disk ≤ g.moment_of b.disk
+  pub ready_cleaned : IsWorldReady o g old → StandOver (with_cleaner item old.sessions.txns) b → b.stopped ≡ false → b.now.counted ≡ old.store.now.counted → g.moment_of old.store.disk ≤ g.moment_of b.disk
       → (AreSeated old.sessions old.store.now.counted → AreSeated (keeping_room item old.sessions) old.store.now.counted)
-      → (IsOrdered o.start (g.moment_of b.disk) old.sessions → IsOrdered o.start (g.moment_of b.disk) (keeping_room item old.sessions))
-      → IsCountedPosition b.now.counted pass.at → IsReady o g (record old { store = b; sessions = keeping_room item old.sessions; pass = pass })
+      → (IsTapeOrdered o.start (g.moment_of b.disk) old.sessions → IsTapeOrdered o.start (g.moment_of b.disk) (keeping_room item old.sessions))
+      → IsCountedPosition b.now.counted pass.at → IsWorldReady o g (record old { store = b; sessions = keeping_room item old.sessions; pass = pass })
   ready_cleaned ready stand going counted later seats ordered place = record {
     stand = stand;
     going = going;
@@ -240,7 +240,7 @@ module _ {D B : Type 0} (o : Opening B) (first : Image) (g : Ghosts D) (old : Ru
   pub shows_looked : (s : State) → Shows o first g s old → Shows o first g s looked
   shows_looked s shows = record { opened = shows.opened; on = shows.on; mind = shows.mind; shows = shows.shows; undo = shows.undo; names = shows.names; numbered = shows.numbered; full = shows.full }
 
-  pub ready_looked : pass.at ≡ old.pass.at → IsReady o g old → IsReady o g looked
+  pub ready_looked : pass.at ≡ old.pass.at → IsWorldReady o g old → IsWorldReady o g looked
   ready_looked at ready = record {
     stand = ready.stand;
     going = ready.going;

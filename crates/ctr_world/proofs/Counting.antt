@@ -19,13 +19,13 @@ use Rattle.ctr_undo.specs.stops_World.{KeepsWorld}
 use Rattle.ctr_undo.specs.walk_Damage.{ReadsPages}
 use Rattle.ctr_store.specs.Store.{View, LeavesFront}
 use Rattle.ctr_pass.specs.session_world_World.{SessionsHeld, InWorld}
-use Rattle.ctr_pass.specs.exec_Sessions.{OrFails, held_by}
+use Rattle.ctr_pass.specs.exec_Sessions.{OrFails, sessions_held_by}
 use Rattle.ctr_pass.proofs.session_world_Resting.{world_rests}
 use Rattle.ctr_totals.specs.declared.counting.Totals.{Totals}
 use Rattle.ctr_totals.specs.Totals.{AreTotals}
 use Rattle.ctr_world.specs.declared.opening.Opening.{Ghosts as Opening}
 use Rattle.ctr_world.specs.Held.{Running}
-use Rattle.ctr_world.specs.World.{IsReady, Shows, rows_asked, start_in}
+use Rattle.ctr_world.specs.World.{IsWorldReady, Shows, rows_asked, start_in}
 use Rattle.ctr_world.proofs.Quiet.{behind, ready_behind, world_behind}
 
 -- pages that are read keep each World
@@ -48,7 +48,7 @@ module _ {D : Type 0} (first : Image) (g : Ghosts D) (a b : View D) where
   none_waits (Err e) read tells sound none = tt
 
 module _ {D B : Type 0} (o : Opening B) (first : Image) (g : Ghosts D) (old : Running D) (b : View D) where
-  pub ready_counted : {T : Type 0} (r : Result T StoreFault) → ReadsPages first g old.store b r → IsReady o g old → OnOk r (IsReady o g (behind o first g old b))
+  pub ready_counted : {T : Type 0} (r : Result T StoreFault) → ReadsPages first g old.store b r → IsWorldReady o g old → OnOk r (IsWorldReady o g (behind o first g old b))
   ready_counted (Ok x) read ready = ready_behind o first g old b read.keeps read.going read.time.later ready
   ready_counted (Err e) read ready = tt
 
@@ -56,7 +56,7 @@ module _ {D B : Type 0} (o : Opening B) (first : Image) (g : Ghosts D) (old : Ru
       → ((c : Start) (opened : D) (h : SessionsHeld) (w : Mind) → InWorld g c opened old.store h w → OrFails (InWorld g c opened b h w) r)
       → IsTrue g.tells → IsSoundImage first → Shows o first g s old → OrFails (Shows o first g s (behind o first g old b)) r
   shows_counted (Ok x) s read kept tells sound shows = world_behind o first g old b s (read.logs tells sound).now kept shows
-  shows_counted (Err e) s read kept tells sound shows = kept (start_in o s) shows.opened (held_by old.sessions) shows.mind shows.shows.world
+  shows_counted (Err e) s read kept tells sound shows = kept (start_in o s) shows.opened (sessions_held_by old.sessions) shows.mind shows.shows.world
 
 -- the rows that a tape has led to are those that what is shown has led to
 pub totals_asked : {D B : Type 0} (o : Opening B) (first : Image) (g : Ghosts D) (s : State) (w : Running D) (shows : Shows o first g s w) (r : Result Totals StoreFault)

@@ -17,13 +17,13 @@ use Rattle.ctr_record_effects.specs.Standing.{StandsForDatabase}
 use Rattle.ctr_undo.specs.kept_Turns.{start_point}
 use Rattle.ctr_undo.specs.stops_Stops.{Course, HasFirstCommits, KeepsCommits}
 use Rattle.ctr_store.specs.Store.{View, LeavesFront}
-use Rattle.ctr_undo.specs.Left.{left_in, IsOver as NoneIsLeft}
+use Rattle.ctr_undo.specs.Left.{left_in, IsUndoOver as NoneIsLeft}
 use Rattle.ctr_pass.specs.exec_Runners.{made_at, runner_at}
 use Rattle.ctr_world.specs.declared.opening.Opening.{Ghosts as Opening}
 use Rattle.ctr_world.specs.Held.{Running, Held}
 use Rattle.ctr_world.specs.Opened.{IsRunLine}
 use Rattle.ctr_world.specs.World.{Shows, Kept, LeavesPrefix, start_in, led_to}
-use Rattle.ctr_world.specs.Turns.{IsOver}
+use Rattle.ctr_world.specs.Turns.{IsWorldOver}
 use Rattle.ctr_world.specs.Ended.{Ends, EndsInOrder}
 use Rattle.ctr_world.proofs.Keeping.{prefix_now}
 use Rattle.ctr_world.proofs.Stuck.{has_itself}
@@ -39,7 +39,7 @@ none_there : (names : List (List ℕ)) → ((name : List ℕ) → has_name name 
 none_there [] none = refl
 none_there (n ∷ ns) none = absurd (none n (has_itself n ns))
 
-module _ {D B : Type 0} (o : Opening B) (first : Image) (g : Ghosts D) (w : Held D) (kept : Kept o first g w) (over : w.stop ≡ None → IsOver w) where
+module _ {D B : Type 0} (o : Opening B) (first : Image) (g : Ghosts D) (w : Held D) (kept : Kept o first g w) (over : w.stop ≡ None → IsWorldOver w) where
   abbrev r : Running D
   r = w.running
 

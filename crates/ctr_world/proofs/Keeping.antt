@@ -25,14 +25,14 @@ use Rattle.ctr_pass.specs.session_world_Ready.{LeavesDisk, LeavesFrontOrGrows}
 use Rattle.ctr_pass.specs.exec_Order.{StandInOrder}
 use Rattle.ctr_world.specs.declared.opening.Opening.{Ghosts as Opening}
 use Rattle.ctr_world.specs.Held.{Held, Running}
-use Rattle.ctr_world.specs.World.{IsReady, Shows, IsLegalTape, IsTapeOf, IsUndamaged, IsWornAt, KeepsPassIn, LeavesPrefix, StopsBy, Kept, led_to, stop_by, start_in}
+use Rattle.ctr_world.specs.World.{IsWorldReady, Shows, IsLegalTape, IsTapeOf, IsUndamagedStop, IsWornAt, KeepsPassIn, LeavesPrefix, StopsBy, Kept, led_to, stop_by, start_in}
 use Rattle.ctr_world.proofs.Quiet.{after}
 
 -- an image that stands for a database is sound
 pub sound_of : (first : Image) (s : State) → StandsForDatabase first s → IsSoundImage first
 sound_of first s stands = (stands.folds.root, stands.folds.sound)
 
-pub tape_of : {D B : Type 0} (o : Opening B) (g : Ghosts D) (w : Running D) → w.sessions.script.lines ≡ o.lines → IsReady o g w → IsTapeOf o (g.moment_of w.store.disk) w.sessions.tape.items
+pub tape_of : {D B : Type 0} (o : Opening B) (g : Ghosts D) (w : Running D) → w.sessions.script.lines ≡ o.lines → IsWorldReady o g w → IsTapeOf o (g.moment_of w.store.disk) w.sessions.tape.items
 tape_of o g w lines ready = record {
   order = subst (λ (ls : List Line). StandInOrder ls (at_start o.start [] []) w.sessions.tape.items) lines ready.ordered.order;
   later = subst (λ (ls : List Line). (final ls (at_start o.start [] []) w.sessions.tape.items).moment ≤ g.moment_of w.store.disk) lines ready.ordered.later;
@@ -108,7 +108,7 @@ module _ {D B : Type 0} (o : Opening B) (first : Image) (g : Ghosts D) (p : Held
   none_met = subst (λ (q : Option Stop). StopsBy q o.faults (g.faults_of old.store.disk)) going kept.stops
 
   -- it was answered
-  pub kept_on : IsReady o g new → ((s : State) → IsTrue g.tells → IsSoundImage first → Shows o first g s old → KeepsPassIn o s old → Shows o first g s new × KeepsPassIn o s new) → g.faults_of new.store.disk ≡ g.faults_of old.store.disk
+  pub kept_on : IsWorldReady o g new → ((s : State) → IsTrue g.tells → IsSoundImage first → Shows o first g s old → KeepsPassIn o s old → Shows o first g s new × KeepsPassIn o s new) → g.faults_of new.store.disk ≡ g.faults_of old.store.disk
       → Kept o first g (record p { running = new })
   kept_on ready both faults = record {
     ready = λ none. ready;
@@ -117,7 +117,7 @@ module _ {D B : Type 0} (o : Opening B) (first : Image) (g : Ghosts D) (p : Held
     tape = tape_of o g new lines_now ready;
     legal = λ s tells stands. legal_of o first g s new (now s tells stands).0;
     sized = λ s tells stands. size ∙ kept.sized s tells stands;
-    undamaged = λ s tells stands. subst IsUndamaged (sym going) tt;
+    undamaged = λ s tells stands. subst IsUndamagedStop (sym going) tt;
     left = λ s tells stands stopped. absurd (stopped going);
     lines_are = lines_now;
     each = kept.each;
@@ -152,7 +152,7 @@ module _ {D B : Type 0} (o : Opening B) (first : Image) (g : Ghosts D) (p : Held
         later = after _ (g.moment_of old.store.disk) (g.moment_of new.store.disk) (subst (λ (es : List Entry). (final o.lines (start_point (start_in o s)) es).moment ≤ g.moment_of old.store.disk) (sym tape) (kept.legal s tells stands).later) later;
       };
       sized = λ s tells stands. size ∙ kept.sized s tells stands;
-      undamaged = λ s tells stands. subst (λ (x : StoreFault). IsUndamaged (Some (stop_by x))) (sym (told s tells (sound_of first s stands) (kept.shows s tells stands going) (kept.pass s tells stands going))) tt;
+      undamaged = λ s tells stands. subst (λ (x : StoreFault). IsUndamagedStop (Some (stop_by x))) (sym (told s tells (sound_of first s stands) (kept.shows s tells stands going) (kept.pass s tells stands going))) tt;
       left = λ s tells stands stopped.
           let shows = kept.shows s tells stands going in
           subst (LeavesPrefix o g s new.store.disk) (sym tape)

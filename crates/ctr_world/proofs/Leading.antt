@@ -23,7 +23,7 @@ use Rattle.ctr_pass.specs.exec_sessions_Sessions.{Sessions}
 use Rattle.ctr_pass.specs.exec_Sessions.{AreSeated, LeadsTo}
 use Rattle.ctr_world.specs.declared.opening.Opening.{Ghosts as Opening}
 use Rattle.ctr_world.specs.Held.{Running}
-use Rattle.ctr_world.specs.World.{IsReady, Shows, start_in}
+use Rattle.ctr_world.specs.World.{IsWorldReady, Shows, start_in}
 use Rattle.ctr_world.specs.Turns.{AddsEntries}
 use Rattle.ctr_world.proofs.Filling.{full_behind}
 use Rattle.ctr_world.proofs.Passes.{place_more}
@@ -31,7 +31,7 @@ use Rattle.ctr_world.proofs.Passes.{place_more}
 -- ---- whatever the disk tells
 
 module _ {D B : Type 0} (o : Opening B) (g : Ghosts D) (old : Running D) (b : View D) (now : Sessions) (such : List Entry → Type 0) where
-  pub ready_led : IsReady o g old → old.store.now.counted ≤ b.now.counted → StandOver now.txns b → b.stopped ≡ false → AreSeated now b.now.counted → Adds such (g.moment_of old.store.disk) (g.moment_of b.disk) old.sessions now → IsReady o g (record old { store = b; sessions = now })
+  pub ready_led : IsWorldReady o g old → old.store.now.counted ≤ b.now.counted → StandOver now.txns b → b.stopped ≡ false → AreSeated now b.now.counted → Adds such (g.moment_of old.store.disk) (g.moment_of b.disk) old.sessions now → IsWorldReady o g (record old { store = b; sessions = now })
   ready_led ready counted stand going seats adds = record {
     stand = stand;
     going = going;

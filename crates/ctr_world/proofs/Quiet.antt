@@ -23,12 +23,12 @@ use Rattle.ctr_pass.proofs.session_world_Disks.{as_counted}
 use Rattle.ctr_pass.specs.session_world_World.{SessionsHeld, InWorld}
 use Rattle.ctr_pass.proofs.exec_Going.{shows_behind}
 use Rattle.ctr_pass.specs.exec_sessions_Sessions.{Sessions}
-use Rattle.ctr_pass.specs.exec_Order.{IsOrdered}
-use Rattle.ctr_pass.specs.exec_Sessions.{AreSeated, OrFails, held_by}
+use Rattle.ctr_pass.specs.exec_Order.{IsTapeOrdered}
+use Rattle.ctr_pass.specs.exec_Sessions.{AreSeated, OrFails, sessions_held_by}
 use Rattle.ctr_world.specs.declared.opening.Opening.{Ghosts as Opening}
 use Rattle.ctr_world.specs.Held.{Running}
 use Rattle.ctr_pass.specs.cursor_Standing.{IsCountedPosition}
-use Rattle.ctr_world.specs.World.{FullCountsAll, IsReady, Shows, start_in}
+use Rattle.ctr_world.specs.World.{FullCountsAll, IsWorldReady, Shows, start_in}
 
 -- who stands over a store does so over one with the same tables
 stands_still : {D : Type 0} (txns : TxnsHeld) (a b : View D) → b.meta ≡ a.meta → StandOver txns a → StandOver txns b
@@ -43,7 +43,7 @@ after k m n first then = omega (arith, first, then)
 pub at_once : (n : ℕ) → n ≤ n
 at_once n = omega arith
 
-pub ordered_later : (start now then : ℕ) (h : Sessions) → now ≤ then → IsOrdered start now h → IsOrdered start then h
+pub ordered_later : (start now then : ℕ) (h : Sessions) → now ≤ then → IsTapeOrdered start now h → IsTapeOrdered start then h
 ordered_later start now then h more is = record { order = is.order; later = after _ now then is.later more; each = is.each }
 
 -- a call keeps each World of these sessions
@@ -54,7 +54,7 @@ module _ {D B : Type 0} (o : Opening B) (first : Image) (g : Ghosts D) (old : Ru
   abbrev pub behind : Running D
   behind = record old { store = b }
 
-  ready_still : b.meta ≡ old.store.meta → b.now.counted ≡ old.store.now.counted → b.stopped ≡ false → g.moment_of old.store.disk ≤ g.moment_of b.disk → IsReady o g old → IsReady o g behind
+  ready_still : b.meta ≡ old.store.meta → b.now.counted ≡ old.store.now.counted → b.stopped ≡ false → g.moment_of old.store.disk ≤ g.moment_of b.disk → IsWorldReady o g old → IsWorldReady o g behind
   ready_still tables counted going later ready = record {
     stand = stands_still old.sessions.txns old.store b tables ready.stand;
     going = going;
@@ -66,7 +66,7 @@ module _ {D B : Type 0} (o : Opening B) (first : Image) (g : Ghosts D) (old : Ru
     place = subst (λ n. IsCountedPosition n old.pass.at) (sym counted) ready.place;
   }
 
-  pub ready_behind : KeepsRoom old.store b → b.stopped ≡ false → g.moment_of old.store.disk ≤ g.moment_of b.disk → IsReady o g old → IsReady o g behind
+  pub ready_behind : KeepsRoom old.store b → b.stopped ≡ false → g.moment_of old.store.disk ≤ g.moment_of b.disk → IsWorldReady o g old → IsWorldReady o g behind
   ready_behind keeps going later ready = ready_still keeps.meta keeps.counted going later ready
 
   pub world_behind : (s : State) → b.now ≡ old.store.now → KeepsWorlds g old.store b → Shows o first g s old → Shows o first g s behind
@@ -74,7 +74,7 @@ module _ {D B : Type 0} (o : Opening B) (first : Image) (g : Ghosts D) (old : Ru
     opened = shows.opened;
     on = shows.on;
     mind = shows.mind;
-    shows = shows_behind g (start_in o s) shows.opened old.store b old.sessions shows.mind shows.shows (kept (start_in o s) shows.opened (held_by old.sessions) shows.mind shows.shows.world);
+    shows = shows_behind g (start_in o s) shows.opened old.store b old.sessions shows.mind shows.shows (kept (start_in o s) shows.opened (sessions_held_by old.sessions) shows.mind shows.shows.world);
     undo = shows.undo;
     names = ap (λ (q : State). names_of_items (area_in q).title old.undo.items) pages ∙ shows.names;
     numbered = shows.numbered;
@@ -83,12 +83,12 @@ module _ {D B : Type 0} (o : Opening B) (first : Image) (g : Ghosts D) (old : Ru
 
   -- ---- by what the call answered
 
-  pub ready_or : {T : Type 0} (result : Result T StoreFault) → KeepsRoom old.store b → OnOk result (b.stopped ≡ false) → g.moment_of old.store.disk ≤ g.moment_of b.disk → IsReady o g old → OnOk result (IsReady o g behind)
+  pub ready_or : {T : Type 0} (result : Result T StoreFault) → KeepsRoom old.store b → OnOk result (b.stopped ≡ false) → g.moment_of old.store.disk ≤ g.moment_of b.disk → IsWorldReady o g old → OnOk result (IsWorldReady o g behind)
   ready_or (Ok x) keeps going later ready = ready_behind keeps going later ready
   ready_or (Err e) keeps going later ready = tt
 
   -- of a turn of the flusher
-  pub ready_flushed : {T : Type 0} (result : Result T StoreFault) → KeepsPages first g old.store b result → IsReady o g old → OnOk result (IsReady o g behind)
+  pub ready_flushed : {T : Type 0} (result : Result T StoreFault) → KeepsPages first g old.store b result → IsWorldReady o g old → OnOk result (IsWorldReady o g behind)
   ready_flushed (Ok x) leaves ready = ready_still leaves.meta leaves.counted leaves.going leaves.later ready
   ready_flushed (Err e) leaves ready = tt
 
@@ -96,7 +96,7 @@ module _ {D B : Type 0} (o : Opening B) (first : Image) (g : Ghosts D) (old : Ru
       → ((c : Start) (opened : D) (h : SessionsHeld) (w : Mind) → InWorld g c opened old.store h w → OrFails (InWorld g c opened b h w) result)
       → IsTrue g.tells → IsSoundImage first → Shows o first g s old → OrFails (Shows o first g s behind) result
   shows_flushed (Ok x) s leaves kept told sound shows = world_behind s (leaves.shows told sound).0.now kept shows
-  shows_flushed (Err e) s leaves kept told sound shows = kept (start_in o s) shows.opened (held_by old.sessions) shows.mind shows.shows.world
+  shows_flushed (Err e) s leaves kept told sound shows = kept (start_in o s) shows.opened (sessions_held_by old.sessions) shows.mind shows.shows.world
 
   -- each World is kept where it was answered
   abbrev pub KeepsOr : {T : Type 0} → Result T StoreFault → Type 0

@@ -40,7 +40,7 @@ use Rattle.ctr_world.specs.declared.opening.Opening.{Ghosts as Opening}
 use Rattle.ctr_world.specs.Begun.{IsBegun, UndoesAll}
 use Rattle.ctr_world.specs.Held.{Running}
 use Rattle.ctr_world.specs.Opened.{CanRun, IsOpenedOn, IsRunLine}
-use Rattle.ctr_world.specs.World.{IsReady, Kept, KeepsPassIn, Shows, passed_over, start_in}
+use Rattle.ctr_world.specs.World.{IsWorldReady, Kept, KeepsPassIn, Shows, passed_over, start_in}
 use Rattle.ctr_world.proofs.Keeping.{legal_of, sound_of, tape_of}
 use Rattle.ctr_world.proofs.Quiet.{after, at_once}
 use Rattle.ctr_world.proofs.Roomy.{room_for_one}
@@ -71,7 +71,7 @@ module _ {D B : Type 0} (o : Opening B) (first : Image) (g : Ghosts D) (disk : D
   lines_now : begun.sessions.script.lines ≡ o.lines
   lines_now = ap (λ (sc : Script). sc.lines) is.script_is ∙ sym named.lines_are
 
-  ready : IsReady o g new
+  ready : IsWorldReady o g new
   ready = record {
     stand = record {
       next = is.next ∙ sym (λ i. (leaves.keeps.meta i).tables.next);

@@ -15,7 +15,7 @@ use Rattle.ctr_redo.specs.States.{State, steps}
 use Rattle.ctr_record_effects.specs.Standing.{IsDatabaseState, StandsForDatabase}
 use Rattle.ctr_undo.proofs.stops_Fronts.{take_none}
 use Rattle.ctr_undo.specs.stops_World.{KeepsWorld}
-use Rattle.ctr_undo.specs.Left.{IsOver as NoneIsLeft}
+use Rattle.ctr_undo.specs.Left.{IsUndoOver as NoneIsLeft}
 use Rattle.ctr_world.specs.declared.opening.Opening.{Ghosts as Opening}
 use Rattle.ctr_world.specs.Ended.{CountsAllPages, HasNoUndoOf}
 use Rattle.ctr_world.specs.Held.{Running}

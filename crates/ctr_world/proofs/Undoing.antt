@@ -17,19 +17,19 @@ use Rattle.ctr_undo.specs.page_turns_Turns.{LogsAtRest}
 use Rattle.ctr_undo.specs.declared.turning.UndoTurn.{UndoTurn}
 use Rattle.ctr_undo.specs.declared.turning.UndoTurn.TheVariants.{Undone, Over}
 use Rattle.ctr_undo.specs.Left.{UndoLeft, left_in}
-use Rattle.ctr_undo.specs.Turns.{LogsNext, TakesNext, record_for}
+use Rattle.ctr_undo.specs.Turns.{LogsNext, TakesNextItem, record_for}
 use Rattle.ctr_undo.proofs.Lists.{one_less}
 use Rattle.ctr_pass.specs.session_world_Ready.{LeavesDisk}
 use Rattle.ctr_pass.proofs.session_world_Disks.{disk_done, disk_failed, disk_one}
 use Rattle.ctr_pass.specs.exec_sessions_Sessions.{Sessions}
-use Rattle.ctr_pass.specs.exec_Order.{IsOrdered}
+use Rattle.ctr_pass.specs.exec_Order.{IsTapeOrdered}
 use Rattle.ctr_pass.specs.exec_Runners.{all_left}
 use Rattle.ctr_pass.specs.exec_Sessions.{AreSeated}
 use Rattle.ctr_pass.specs.cursor_Standing.{IsCountedPosition}
 use Rattle.ctr_world.specs.declared.opening.Opening.{Ghosts as Opening}
 use Rattle.ctr_world.specs.Held.{Running}
 use Rattle.ctr_world.specs.Opened.{IsRunLine}
-use Rattle.ctr_world.specs.World.{HoldsLeft, IsReady}
+use Rattle.ctr_world.specs.World.{HoldsLeft, IsWorldReady}
 use Rattle.ctr_world.specs.Turns.{AreSessionsBehind}
 
 -- ---- the sessions behind it
@@ -78,7 +78,7 @@ own_lines lines all l among = from_one l.session (each_of IsRunLine l lines all 
     from_one : (n : ℕ) → 1 ≤ n → 0 < n
     from_one n least = omega (arith, least)
 
-pub taken_fewer : (u v : UndoLeft) → TakesNext u v (Ok Undone) → left_in v ≤ left_in u
+pub taken_fewer : (u v : UndoLeft) → TakesNextItem u v (Ok Undone) → left_in v ≤ left_in u
 taken_fewer u v (item, goes) = less (left_in u) (left_in v) (one_less item u v goes)
   where
     less : (n m : ℕ) → n ≡ m + 1 → m ≤ n
@@ -96,8 +96,8 @@ module _ {D B : Type 0} (o : Opening B) (g : Ghosts D) (old : Running D) (b : Vi
   abbrev new : Running D
   new = record old { store = b; undo = v; names = names; sessions = now }
 
-  pub ready_undone : (told : Option (List ℕ)) (moment : ℕ) → IsReady o g old → AddsItems 0 old.store.meta b.meta → b.stopped ≡ false → b.now.counted ≡ old.store.now.counted → AreSessionsBehind told moment old.sessions now
-      → ((counted : ℕ) → AreSeated old.sessions counted → AreSeated now counted) → HoldsLeft new → IsOrdered o.start (g.moment_of b.disk) now → left_in v ≤ left_in old.undo → IsReady o g new
+  pub ready_undone : (told : Option (List ℕ)) (moment : ℕ) → IsWorldReady o g old → AddsItems 0 old.store.meta b.meta → b.stopped ≡ false → b.now.counted ≡ old.store.now.counted → AreSessionsBehind told moment old.sessions now
+      → ((counted : ℕ) → AreSeated old.sessions counted → AreSeated now counted) → HoldsLeft new → IsTapeOrdered o.start (g.moment_of b.disk) now → left_in v ≤ left_in old.undo → IsWorldReady o g new
   ready_undone told moment ready adds going counted behind seats held ordered less =
       let same = txns_behind told moment old.sessions now behind in
       record {

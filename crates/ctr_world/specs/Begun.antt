@@ -19,7 +19,7 @@ use Rattle.ctr_undo.specs.walk_Damage.{ReadsPages}
 use Rattle.ctr_undo.specs.declared.naming.NamesRefusal.{NamesRefusal}
 use Rattle.ctr_undo.specs.declared.naming.NamesRefusal.TheVariants as refusal
 use Rattle.ctr_pass.specs.exec_sessions_Sessions.{Sessions}
-use Rattle.ctr_pass.specs.exec_Order.{IsOrdered}
+use Rattle.ctr_pass.specs.exec_Order.{IsTapeOrdered}
 use Rattle.ctr_pass.specs.exec_Sessions.{AreFresh, AreSeated}
 use Rattle.ctr_pass.specs.cursor_Pass.{start}
 use Rattle.ctr_pass.specs.declared.pass.Phase.TheVariants.{Calm}
@@ -27,11 +27,11 @@ use Rattle.ctr_pass.specs.Sparing.{keeping_room}
 use Rattle.ctr_world.specs.declared.beginning.Begun.{Begun}
 
 -- The sessions are those of a script that have begun nothing, over the store, but that room is kept
--- for an item of the cleaner's; recovery holds the names of what is left of undo, and that is all that
--- there is; and the cleaner's pass is the first.
+-- for an item of the cleaner's; recovery holds the names of what is left of undo, and that is all
+-- that there is; and the cleaner's pass is the first.
 pub record IsBegun {D : Type 0} (v : View D) (script : Script) (b : Begun) : Type 0 where
   pub seats : (counted : ℕ) → AreSeated b.sessions counted
-  pub ordered : (start now : ℕ) → start ≤ now → IsOrdered start now b.sessions
+  pub ordered : (start now : ℕ) → start ≤ now → IsTapeOrdered start now b.sessions
   pub unkept : Sessions
   pub fresh : AreFresh unkept
   pub kept : b.sessions ≡ keeping_room true unkept
@@ -54,7 +54,8 @@ refused_by (refusal.Store fault.Fault) = open_error.Fault
 refused_by (refusal.Store (fault.Damaged d)) = open_error.Damaged d
 refused_by refusal.OutOfMemory = open_error.OutOfMemory
 
--- what a reading of pages is refused by: it finds neither that there is no database nor a worn number
+-- what a reading of pages is refused by: it finds neither that there is no database nor a worn
+-- number
 abbrev pub IsOfReading : OpenError → Type 0
 IsOfReading open_error.NoDatabase = ⊥
 IsOfReading (open_error.Damaged d) = Unit {0}

@@ -12,7 +12,8 @@ use Rattle.ctr_world.specs.Held.{Running}
 abbrev pub noted_pass : {D : Type 0} → Running D → Pass
 noted_pass w = noted w.pass w.store.next w.sessions.tape.items
 
--- A whole pass found nothing to do, and since it began no record was logged and no transaction ended.
+-- A whole pass found nothing to do, and since it began no record was logged and no transaction
+-- ended.
 abbrev pub IsIdlePass : {D : Type 0} → Running D → Type 0
 IsIdlePass w = (noted_pass w).phase ≡ Idle
 
@@ -24,15 +25,15 @@ pub record CleansHere {D : Type 0} (old new : Running D) : Type 0 where
       ≡ pass_behind (noted_pass old) went.from went.did old.sessions.txns.cleaner new.store.next
   pub numbers : new.store.next ≡ next_cleaned went.did old.store.next
 
--- The store came nearer to room by a turn, where it had none, and the pass is as it was; or a turn was
--- taken in the pass.
+-- The store came nearer to room by a turn, where it had none, and the pass is as it was; or a turn
+-- was taken in the pass.
 abbrev pub CleansOn : {D : Type 0} → Running D → Running D → Type 0
 CleansOn old new = ((HasTurnRoom old.store → ⊥)
     × (turns_for_room new.store < turns_for_room old.store) × (new.pass ≡ old.pass))
     ⊎ CleansHere old new
 
--- What others leave of the cleaner's pass: it is as it was; and so is undo's list, where no record was
--- logged.
+-- What others leave of the cleaner's pass: it is as it was; and so is undo's list, where no record
+-- was logged.
 pub record LeavesPass {D : Type 0} (old new : Running D) : Type 0 where
   pub pass : new.pass ≡ old.pass
   pub undo : (new.undo ≡ old.undo) ⊎ (new.store.next ≡ old.store.next + 1)

@@ -20,7 +20,7 @@ pub record CountsLoaded {D B : Type 0} (o : Opening B) (first : Image) (g : Ghos
   pub unasked : asked ≡ false → f.totals ≡ no_totals
   pub stopped : f.stop ≢ None → f.totals ≡ no_totals
 
--- The same of totals, for the functions inside.
+-- The totals that are told, for the functions inside, are those of the rows that were asked for.
 pub record TotalsAre {D B : Type 0} (o : Opening B) (first : Image) (g : Ghosts D) (asked : Bool)
     (w : Held D) (t : Totals) : Type 0 where
   pub counted : (s : State) → IsTrue g.tells → StandsForDatabase first s → asked ≡ true

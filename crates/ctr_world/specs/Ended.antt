@@ -24,10 +24,10 @@ use Rattle.ctr_pass.specs.exec_Runners.{IsUnbegun}
 use Rattle.std.specs.List.{AllByRecursion}
 use Rattle.ctr_world.specs.declared.opening.Opening.{Ghosts as Opening}
 use Rattle.ctr_world.specs.Held.{Held}
-use Rattle.ctr_world.specs.World.{start_in, led_to, IsFullEntry, IsLegalTape, IsTapeOf, IsUndamaged, LeavesPrefix}
+use Rattle.ctr_world.specs.World.{start_in, led_to, IsFullEntry, IsLegalTape, IsTapeOf, IsUndamagedStop, LeavesPrefix}
 
--- The image stands for a database in which nothing is left to undo of one that was in a state: who is
--- open has begun since, and so has who has an item of the secondary log.
+-- The image stands for a database in which nothing is left to undo of one that was in a state: who
+-- is open has begun since, and so has who has an item of the secondary log.
 pub record HasNoUndoOf (s : State) (image : Image) : Type 0 where
   pub state : State
   pub stands : StandsForDatabase image state
@@ -41,16 +41,16 @@ pub record CountsAllPages (image : Image) : Type 0 where
   pub all : MOST_PAGES ≤ state.counted
 
 -- Of a database that the first image stands for, in a state: the tape is legal, no damage was told,
--- undo took no more turns than there was, and, also where a fault stopped the World, a crash at each
--- moment leaves a prefix of the commit order with every commit answered by then, or, before the first
--- entry, what it might have left at the start. Where nothing stopped
--- it, the tape is whole, recovery holds no name, undo took a turn for each item and transaction of the
--- start, and a crash at the end leaves all commits, nothing of the start to undo, and, where a Write was
--- refused as Full, a file of 30,000 pages.
+-- undo took no more turns than there was, and, also where a fault stopped the World, a crash at
+-- each moment leaves a prefix of the commit order with every commit answered by then, or, before
+-- the first entry, what it might have left at the start. Where nothing stopped it, the tape is
+-- whole, recovery holds no name, undo took a turn for each item and transaction of the start, and a
+-- crash at the end leaves all commits, nothing of the start to undo, and, where a Write was refused
+-- as Full, a file of 30,000 pages.
 pub record Ends {D B : Type 0} (o : Opening B) (g : Ghosts D) (s : State) (es : List Entry)
     (stop : Option Stop) (undone : ℕ) (disk : D) : Type 0 where
   pub legal : IsLegalTape o s (g.moment_of disk) es
-  pub undamaged : IsUndamaged stop
+  pub undamaged : IsUndamagedStop stop
   pub undone_most : undone ≤ undo_size s.tables
   pub undone_all : stop ≡ None → undone ≡ undo_size s.tables
   pub whole : stop ≡ None → IsWhole o.lines (led_to o s es)
@@ -84,8 +84,9 @@ pub record RefusesWith {D : Type 0} (g : Ghosts D) (old : D) (error : OpenError)
   pub fault : error ≡ Fault → CountsFault (g.faults_of old) (g.faults_of new)
   pub no_fault : error ≢ Fault → g.faults_of new ≡ g.faults_of old
 
--- An image passes the checks that come first: its root is open, all checks of its log and of the pages
--- that the log's records are on pass, and no number is worn. A database that passes them is opened.
+-- An image passes the checks that come first: its root is open, all checks of its log and of the
+-- pages that the log's records are on pass, and no number is worn. A database that passes them is
+-- opened.
 pub record PassesOpening (image : Image) : Type 0 where
   pub root : Root
   pub stands : FindsRoot image (Some root)
@@ -97,9 +98,9 @@ pub record PassesOpening (image : Image) : Type 0 where
 abbrev pub StandsForNone : Image → Type 0
 StandsForNone image = (s : State) → StandsForDatabase image s → ⊥
 
--- Why a World isn't opened, by its image: there is no database; the first check of the root, the log
--- and the pages that its records are on fails so, or all of them pass and it stands for no database; or
--- a number is worn.
+-- Why a World isn't opened, by its image: there is no database; the first check of the root, the
+-- log and the pages that its records are on fails so, or all of them pass and it stands for no
+-- database; or a number is worn.
 abbrev pub RefusesWorld : Image → OpenError → Type 0
 RefusesWorld image NoDatabase = RefusesAs image NoDatabase
 RefusesWorld image (Damaged d) =

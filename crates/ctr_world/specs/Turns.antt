@@ -16,7 +16,7 @@ use Rattle.ctr_flush.specs.Turns.{AnswersTurn, IsIdle, IsShort}
 use Rattle.ctr_pass.specs.txn_Held.{IsOneOfEight}
 use Rattle.ctr_undo.specs.declared.list.UndoItem.{UndoItem}
 use Rattle.ctr_undo.specs.declared.list.UndoItem.TheVariants.{Slog, Orphan}
-use Rattle.ctr_undo.specs.Left.{left_in, IsOver as NoneIsLeft}
+use Rattle.ctr_undo.specs.Left.{left_in, IsUndoOver as NoneIsLeft}
 use Rattle.ctr_pass.specs.exec_sessions_Sessions.{Sessions}
 use Rattle.ctr_pass.specs.exec_Order.{IsReleaseEntry}
 use Rattle.ctr_pass.specs.exec_Runners.{runner_at}
@@ -46,13 +46,13 @@ AreReleases es = (length es ≤ 1) × AllByRecursion IsReleaseEntry es
 
 -- The entries of a turn: of a session's act, or answers; of undo's item; and behind these the
 -- answers of all commits that it made durable. The flusher and the cleaner answer alone.
-abbrev pub AreBy : Actor → List Entry → Type 0
-AreBy (actor.Session s) es = (own : List Entry) × (answers : List Entry) × (es ≡ own ++ answers)
+abbrev pub AreEntriesBy : Actor → List Entry → Type 0
+AreEntriesBy (actor.Session s) es = (own : List Entry) × (answers : List Entry) × (es ≡ own ++ answers)
     × AreOfTurn s own × AreAnswers answers
-AreBy actor.Undo es = (own : List Entry) × (answers : List Entry) × (es ≡ own ++ answers)
+AreEntriesBy actor.Undo es = (own : List Entry) × (answers : List Entry) × (es ≡ own ++ answers)
     × AreReleases own × AreAnswers answers
-AreBy actor.Flusher es = AreAnswers es
-AreBy actor.Cleaner es = AreAnswers es
+AreEntriesBy actor.Flusher es = AreAnswers es
+AreEntriesBy actor.Cleaner es = AreAnswers es
 
 -- The last of some names goes, and is told, where it isn't among the others.
 abbrev pub LastGoes : List (List ℕ) → List (List ℕ) → Option (List ℕ) → Type 0
@@ -99,20 +99,20 @@ abbrev pub AreAnswered : {D : Type 0} → Running D → Type 0
 AreAnswered w = w.store.waiting ≡ []
     → w.sessions.txns.answered ≡ length w.sessions.txns.numbers.commits
 
--- What a turn of the flusher did: the first of its four things that there was to do; and all commits
--- that are durable are answered.
-abbrev pub WritesBehind : {D : Type 0} → Running D → Running D → Type 0
-WritesBehind old new = AnswersTurn old.store new.store (Ok Wrote) × AreAnswered new
+-- What a turn of the flusher did: the first of its four things that there was to do; and all
+-- commits that are durable are answered.
+abbrev pub WritesBehindTurn : {D : Type 0} → Running D → Running D → Type 0
+WritesBehindTurn old new = AnswersTurn old.store new.store (Ok Wrote) × AreAnswered new
 
--- What an actor's turn that isn't over does: it brings the actor nearer to its end, where others take
--- none, and by a turn of undo no session gets further from its own; or the cleaner's pass goes on; and
--- behind it all commits that are durable are answered.
+-- What an actor's turn that isn't over does: it brings the actor nearer to its end, where others
+-- take none, and by a turn of undo no session gets further from its own; or the cleaner's pass goes
+-- on; and behind it all commits that are durable are answered.
 abbrev pub ComesNearer : {D : Type 0} → Actor → Running D → Running D → Type 0
 ComesNearer (actor.Session s) old new =
     (turns_left new.sessions new.store < turns_left old.sessions old.store) × AreAnswered new
 ComesNearer actor.Undo old new = (undo_left new < undo_left old)
     × (turns_left new.sessions new.store < turns_left old.sessions old.store) × AreAnswered new
-ComesNearer actor.Flusher old new = WritesBehind old new
+ComesNearer actor.Flusher old new = WritesBehindTurn old new
 ComesNearer actor.Cleaner old new = CleansOn old new × AreAnswered new
 
 -- nothing is left to do for a session, whose statements are finished, or for undo
@@ -131,20 +131,20 @@ HasTurnLeft actor.Flusher w = Unit {0}
 HasTurnLeft actor.Cleaner w = IsIdlePass w → ⊥
 
 -- all sessions are over, and nothing is left of undo
-pub record IsOver {D : Type 0} (w : Held D) : Type 0 where
+pub record IsWorldOver {D : Type 0} (w : Held D) : Type 0 where
   pub sessions : (s : ℕ) → HasStatementLeft s w.running.sessions → ⊥
   pub undo : NoneIsLeft w.running.undo
 
--- nothing is due for the flusher, where there is nothing to write and no new generation of the log is
--- due; and for the cleaner where its pass is idle
+-- nothing is due for the flusher, where there is nothing to write and no new generation of the log
+-- is due; and for the cleaner where its pass is idle
 abbrev pub NoneDue : {D : Type 0} → Actor → Running D → Type 0
 NoneDue (actor.Session s) w = ⊥
 NoneDue actor.Undo w = ⊥
 NoneDue actor.Flusher w = IsIdle w.store
 NoneDue actor.Cleaner w = IsIdlePass w
 
--- The flusher alone falls short, where a new generation is due, for which memory was refused, and there
--- is nothing to write.
+-- The flusher alone falls short, where a new generation is due, for which memory was refused, and
+-- there is nothing to write.
 abbrev pub FallsShort : {D : Type 0} → Actor → Running D → Type 0
 FallsShort (actor.Session s) w = ⊥
 FallsShort actor.Undo w = ⊥
@@ -155,8 +155,9 @@ FallsShort actor.Cleaner w = ⊥
 abbrev pub LogsOneAtMost : {D : Type 0} → Running D → Running D → Type 0
 LogsOneAtMost old new = new.store.next ≤ old.store.next + 1
 
--- Where a session has an act of its own, which is a ROLLBACK of a transaction that wrote, and there is
--- room, its turn takes the latest item of the transaction away, or makes the entry, with the mark.
+-- Where a session has an act of its own, which is a ROLLBACK of a transaction that wrote, and there
+-- is room, its turn takes the latest item of the transaction away, or makes the entry, with the
+-- mark.
 abbrev pub RollsBack : {D : Type 0} → ℕ → Running D → Running D → Type 0
 RollsBack s old new = HasAct old.sessions s → HasTurnRoom old.store → IsRollingBack s old.sessions
     → (entries : List Entry) × RollsTurn s old.sessions old.store new.store entries
@@ -171,7 +172,7 @@ pub record TellsNothing {D : Type 0} (old new : Running D) : Type 0 where
 -- How a turn ended: a World that stops has added nothing, and a turn after a stop does nothing.
 abbrev pub EndsTurn : {D : Type 0} → Ghosts D → Turn → Actor → Held D → Held D → Type 0
 EndsTurn g turn.Went a old new = (old.stop ≡ None) × (new.stop ≡ None)
-    × AddsEntries (AreBy a) (g.moment_of new.running.store.disk) old.running new.running
+    × AddsEntries (AreEntriesBy a) (g.moment_of new.running.store.disk) old.running new.running
     × ComesNearer a old.running new.running × HasTurnLeft a old.running
     × LogsOneAtMost old.running new.running
 EndsTurn g turn.Idle a old new = (old.stop ≡ None) × (new.stop ≡ None) × NoneDue a old.running
@@ -214,7 +215,7 @@ pub record FinishesBy {D : Type 0} (g : Ghosts D) (old : Held D) (tape : List En
 
 -- How a turn of the flusher ends: it is idle where nothing was due.
 abbrev pub FlusherEnds : {D : Type 0} → Running D → Running D → Turn → Type 0
-FlusherEnds old new turn.Went = WritesBehind old new
+FlusherEnds old new turn.Went = WritesBehindTurn old new
 FlusherEnds old new turn.Idle = NoneDue actor.Flusher old × TellsNothing old new
 FlusherEnds old new turn.Short = FallsShort actor.Flusher old × TellsNothing old new
 FlusherEnds old new turn.Over = ⊥

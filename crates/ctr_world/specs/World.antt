@@ -27,10 +27,10 @@ use Rattle.ctr_undo.specs.kept_Turns.{Start, start_point}
 use Rattle.ctr_undo.specs.kept_Walk.{Mind}
 use Rattle.ctr_undo.specs.stops_Stops.{LeavesPrefixAt, LeftSince}
 use Rattle.ctr_undo.specs.stops_World.{starting}
-use Rattle.ctr_undo.specs.Left.{left_in, IsOver}
+use Rattle.ctr_undo.specs.Left.{left_in, IsUndoOver}
 use Rattle.ctr_undo.specs.Keeping.{list_of}
 use Rattle.ctr_pass.specs.session_world_Ready.{StandOver}
-use Rattle.ctr_pass.specs.exec_Order.{IsOrdered, StandInOrder}
+use Rattle.ctr_pass.specs.exec_Order.{IsTapeOrdered, StandInOrder}
 use Rattle.ctr_pass.specs.exec_Sessions.{AreSeated, ShowsSessions}
 use Rattle.ctr_pass.specs.cursor_Standing.{IsCountedPosition}
 use Rattle.ctr_pass.specs.Keeping.{PassedOver, KeepsPass}
@@ -51,13 +51,14 @@ pub record HoldsLeft {D : Type 0} (w : Running D) : Type 0 where
   pub only : (name : List ℕ) → has_name name w.sessions.stuck ≡ true → has_name name w.names ≡ true
 
 -- Each actor may take its turn: the sessions are seated over the store, which isn't stopped; the
--- tape stands in order; recovery holds the names of what is left of undo, which is no more than there
--- was; the lines are those of a script that can be run; and what the cleaner's pass is at is there.
-pub record IsReady {D B : Type 0} (o : Opening B) (g : Ghosts D) (w : Running D) : Type 0 where
+-- tape stands in order; recovery holds the names of what is left of undo, which is no more than
+-- there was; the lines are those of a script that can be run; and what the cleaner's pass is at is
+-- there.
+pub record IsWorldReady {D B : Type 0} (o : Opening B) (g : Ghosts D) (w : Running D) : Type 0 where
   pub stand : StandOver w.sessions.txns w.store
   pub going : w.store.stopped ≡ false
   pub seats : AreSeated w.sessions w.store.now.counted
-  pub ordered : IsOrdered o.start (g.moment_of w.store.disk) w.sessions
+  pub ordered : IsTapeOrdered o.start (g.moment_of w.store.disk) w.sessions
   pub held : HoldsLeft w
   pub count : left_in w.undo ≤ w.size
   pub lines : AllByRecursion IsRunLine o.lines
@@ -80,8 +81,8 @@ pub record IsFullEntry (e : Entry) : Type 0 where
 abbrev pub FullCountsAll : List Entry → ℕ → Type 0
 FullCountsAll es counted = (e : Entry) → IsAmong e es → IsFullEntry e → MOST_PAGES ≤ counted
 
--- The World shows what its tape has led to: its sessions, what is left of undo, and the names of that.
--- Transactions that begin in it have numbers from the database's next on.
+-- The World shows what its tape has led to: its sessions, what is left of undo, and the names of
+-- that. Transactions that begin in it have numbers from the database's next on.
 pub record Shows {D B : Type 0} (o : Opening B) (first : Image) (g : Ghosts D) (s : State)
     (w : Running D) : Type 0 where
   pub opened : D
@@ -101,11 +102,11 @@ pub record IsLegalTape {B : Type 0} (o : Opening B) (s : State) (now : ℕ) (es 
     pub later : (final o.lines (start_point (start_in o s)) es).moment ≤ now
 
 -- nothing has stopped the World, or a fault of the disk, or a number that is worn
-abbrev pub IsUndamaged : Option Stop → Type 0
-IsUndamaged None = Unit {0}
-IsUndamaged (Some stop.Fault) = Unit {0}
-IsUndamaged (Some (stop.Damaged d)) = ⊥
-IsUndamaged (Some (stop.Worn lsn)) = Unit {0}
+abbrev pub IsUndamagedStop : Option Stop → Type 0
+IsUndamagedStop None = Unit {0}
+IsUndamagedStop (Some stop.Fault) = Unit {0}
+IsUndamagedStop (Some (stop.Damaged d)) = ⊥
+IsUndamagedStop (Some (stop.Worn lsn)) = Unit {0}
 
 -- why a World stops, by what a call of its store has met
 abbrev pub stop_by : StoreFault → Stop
@@ -133,7 +134,7 @@ KeepsPassIn o s w = KeepsPass w.pass (passed_over o s w)
 -- By the tape no session is in a transaction, and nothing is left of undo.
 pub record HasNobodyLeft {D B : Type 0} (o : Opening B) (s : State) (w : Running D) : Type 0 where
   pub nobody : IsNobodyInside (led_to o s w.sessions.tape.items).state
-  pub over : IsOver w.undo
+  pub over : IsUndoOver w.undo
 
 -- the rows that a tape has led to: those of the start, with all that asked for a commit
 abbrev pub rows_asked : {B : Type 0} → Opening B → State → List Entry → Database
@@ -147,7 +148,8 @@ LeavesPrefix o g s disk es =
 
 -- ---- both
 
--- a fault that stopped a World was counted; where nothing stopped it, or something else, none was met
+-- a fault that stopped a World was counted; where nothing stopped it, or something else, none was
+-- met
 abbrev pub StopsBy : Option Stop → ℕ → ℕ → Type 0
 StopsBy None before now = now ≡ before
 StopsBy (Some stop.Fault) before now = CountsFault before now
@@ -164,7 +166,7 @@ IsWornAt (Some (stop.Worn lsn)) w = (lsn ≡ w.store.next) × (2 ^ 63 - 1 ≤ ls
 -- Since the World was opened on the disk and the script that its type names.
 pub record Kept {D B : Type 0} (o : Opening B) (first : Image) (g : Ghosts D) (w : Held D) : Type 0
   where
-    pub ready : w.stop ≡ None → IsReady o g w.running
+    pub ready : w.stop ≡ None → IsWorldReady o g w.running
     pub shows : (s : State) → IsTrue g.tells → StandsForDatabase first s → w.stop ≡ None
         → Shows o first g s w.running
     pub pass : (s : State) → IsTrue g.tells → StandsForDatabase first s → w.stop ≡ None
@@ -174,7 +176,7 @@ pub record Kept {D B : Type 0} (o : Opening B) (first : Image) (g : Ghosts D) (w
         → IsLegalTape o s (g.moment_of w.running.store.disk) w.running.sessions.tape.items
     pub sized : (s : State) → IsTrue g.tells → StandsForDatabase first s
         → w.running.size ≡ undo_size s.tables
-    pub undamaged : (s : State) → IsTrue g.tells → StandsForDatabase first s → IsUndamaged w.stop
+    pub undamaged : (s : State) → IsTrue g.tells → StandsForDatabase first s → IsUndamagedStop w.stop
     -- at each moment until a stop a crash left a prefix of the commit order
     pub left : (s : State) → IsTrue g.tells → StandsForDatabase first s → w.stop ≢ None
         → LeavesPrefix o g s w.running.store.disk w.running.sessions.tape.items

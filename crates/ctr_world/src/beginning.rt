@@ -3,7 +3,7 @@ ghost use Rattle.std.specs.Prelude.{◌≡◌, ◌≤◌, ◌<◌, ℕ, false, I
 ghost use Rattle.ctr_record_effects.specs.Standing.{IsDatabaseState};
 ghost use Rattle.ctr_base.specs.Base.{WhereSound};
 ghost use Rattle.ctr_store.specs.Opening.{IsUndamaged};
-ghost use Rattle.ctr_pass.specs.exec_Order.{IsOrdered};
+ghost use Rattle.ctr_pass.specs.exec_Order.{IsTapeOrdered};
 ghost use Rattle.ctr_pass.specs.exec_Sessions.{AreFresh, AreSeated};
 ghost use Rattle.ctr_world.specs.Opened.{CanRun};
 ghost use Rattle.ctr_world.specs.Begun.{IsBegun, IsOfReading, LeavesRoomy, UndoesAll, refused_by};
@@ -51,7 +51,7 @@ fn sessions_of(
     requires first { 0 < next }
     requires runs { CanRun script.lines }
     ensures seats { IfOk result (λ h. (counted : ℕ) → AreSeated h counted) }
-    ensures ordered { IfOk result (λ h. (start now : ℕ) → start ≤ now → IsOrdered start now h) }
+    ensures ordered { IfOk result (λ h. (start now : ℕ) → start ≤ now → IsTapeOrdered start now h) }
     ensures fresh { IfOk result AreFresh }
     ensures is { IfOk result (λ h. (h.txns.numbers.next ≡ next) × (h.stuck ≡ names.now) × (h.script ≡ script)) }
 {

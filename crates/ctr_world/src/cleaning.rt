@@ -7,7 +7,7 @@ ghost use Rattle.ctr_pass.specs.txn_Held.{txn_of};
 ghost use Rattle.ctr_pass.specs.session_world_Ready.{LeavesDisk};
 ghost use Rattle.ctr_pass.specs.exec_Sessions.{AreAnswers, OrFails};
 ghost use Rattle.ctr_world.specs.Held.{running};
-ghost use Rattle.ctr_world.specs.World.{IsReady, KeepsPassIn, Shows};
+ghost use Rattle.ctr_world.specs.World.{IsWorldReady, KeepsPassIn, Shows};
 ghost use Rattle.ctr_world.specs.Cleaning.{CleansHere, IsIdlePass, noted_pass};
 ghost use Rattle.ctr_world.specs.Turns.{AddsUnlessFails, CleanerEnds, LogsOneAtMost};
 
@@ -41,11 +41,11 @@ fn may_empty(sessions: &Sessions) -> MayEmpty
 impl<D: Disk, B: Origin + Opening> Engine<D, B> {
     // A turn in the cleaner's pass, which isn't idle once it has looked at what happened since its last turn.
     fn clean_next(&mut self, noted: Pass) -> Result<(), StoreFault>
-        requires ready { IsReady B.Opening D.Disk (running self.old) }
+        requires ready { IsWorldReady B.Opening D.Disk (running self.old) }
         requires room { HasTurnRoom self.old.store × (self.old.store.next < 2 ^ 63 - 1) }
         requires noted { noted ≡ noted_pass (running self.old) }
         requires goes { IsIdlePass (running self.old) → ⊥ }
-        ensures ready { OnOk result (IsReady B.Opening D.Disk (running self.new)) }
+        ensures ready { OnOk result (IsWorldReady B.Opening D.Disk (running self.new)) }
         ensures kept { (s : State) → WhereSound B.first D.Disk (Shows B.Opening B.first D.Disk s (running self.old) → KeepsPassIn B.Opening s (running self.old)
             → OrFails (Shows B.Opening B.first D.Disk s (running self.new) × KeepsPassIn B.Opening s (running self.new)) result) }
         ensures cleans { OnOk result (CleansHere (running self.old) (running self.new)) }
@@ -87,9 +87,9 @@ impl<D: Disk, B: Origin + Opening> Engine<D, B> {
     /// A turn of the cleaner: it is idle where its pass is; else a turn for room, where the store has none, or one in its pass. All commits that are
     /// durable then are answered.
     pub(crate) fn clean(&mut self) -> Result<Turn, StoreFault>
-        requires ready { IsReady B.Opening D.Disk (running self.old) }
+        requires ready { IsWorldReady B.Opening D.Disk (running self.old) }
         requires number { self.old.store.next < 2 ^ 63 - 1 }
-        ensures ready { OnOk result (IsReady B.Opening D.Disk (running self.new)) }
+        ensures ready { OnOk result (IsWorldReady B.Opening D.Disk (running self.new)) }
         ensures kept { (s : State) → WhereSound B.first D.Disk (Shows B.Opening B.first D.Disk s (running self.old) → KeepsPassIn B.Opening s (running self.old)
             → OrFails (Shows B.Opening B.first D.Disk s (running self.new) × KeepsPassIn B.Opening s (running self.new)) result) }
         ensures adds { AddsUnlessFails AreAnswers (D.moment_of self.new.store.disk) (running self.old) (running self.new) result }

@@ -10,7 +10,7 @@ ghost use Rattle.ctr_flush.specs.Turns.{AnswersTurn, KeepsPages};
 ghost use Rattle.ctr_undo.specs.Left.{UndoLeft, Goes, left_in};
 ghost use Rattle.ctr_pass.specs.session_world_Ready.{LeavesDisk};
 ghost use Rattle.ctr_pass.specs.session_world_World.{SessionsHeld, InWorld};
-ghost use Rattle.ctr_pass.specs.exec_Order.{IsOrdered};
+ghost use Rattle.ctr_pass.specs.exec_Order.{IsTapeOrdered};
 ghost use Rattle.ctr_pass.specs.exec_Sessions.{AreAnswers, AreOfTurn, AreSeated, OrFails, turns_left};
 ghost use Rattle.ctr_world.specs.Held.{running};
 ghost use Rattle.ctr_world.specs.Cleaning.{LeavesPass};
@@ -19,8 +19,8 @@ ghost use Rattle.ctr_model.specs.Database.{after_all};
 ghost use Rattle.ctr_undo.specs.kept_Turns.{state_now};
 ghost use Rattle.ctr_undo.specs.stops_World.{KeepsWorld};
 ghost use Rattle.ctr_undo.specs.walk_Damage.{ReadsPages};
-ghost use Rattle.ctr_world.specs.World.{HoldsLeft, IsReady, Shows, rows_asked};
-ghost use Rattle.ctr_world.specs.Turns.{HasStatementLeft, AreAnswered, AreBy, AreReleases, AddsEntries, AddsUnlessFails, ComesNearer, FlusherEnds, LetsNameGo, LogsOneAtMost, RollsBack};
+ghost use Rattle.ctr_world.specs.World.{HoldsLeft, IsWorldReady, Shows, rows_asked};
+ghost use Rattle.ctr_world.specs.Turns.{HasStatementLeft, AreAnswered, AreEntriesBy, AreReleases, AddsEntries, AddsUnlessFails, ComesNearer, FlusherEnds, LetsNameGo, LogsOneAtMost, RollsBack};
 
 use crate::laws::undo_leaves_the_sessions;
 use crate::names::name_gone;
@@ -60,8 +60,8 @@ pub(crate) struct Engine<D: Disk, B: Origin> {
 impl<D: Disk, B: Origin + Opening> Engine<D, B> {
     // All commits that are durable are answered.
     pub(crate) fn answer(&mut self)
-        requires ready { IsReady B.Opening D.Disk (running self.old) }
-        ensures ready { IsReady B.Opening D.Disk (running self.new) }
+        requires ready { IsWorldReady B.Opening D.Disk (running self.old) }
+        ensures ready { IsWorldReady B.Opening D.Disk (running self.new) }
         ensures shows { (s : State) → WhereSound B.first D.Disk (Shows B.Opening B.first D.Disk s (running self.old) → Shows B.Opening B.first D.Disk s (running self.new)) }
         ensures adds { AddsEntries AreAnswers (D.moment_of self.old.store.disk) (running self.old) (running self.new) }
         ensures same { self.new ≡ record self.old { sessions = self.new.sessions } }
@@ -75,10 +75,10 @@ impl<D: Disk, B: Origin + Opening> Engine<D, B> {
     fn act<L: Ledger>(&mut self, alloc: Global, s: u8, blank: Blank) -> Result<(), StoreFault>
         requires name { blank.name ≡ L.name }
         requires parts { (blank.parts ≡ L.parts) × (0 < blank.parts) }
-        requires ready { IsReady B.Opening D.Disk (running self.old) }
+        requires ready { IsWorldReady B.Opening D.Disk (running self.old) }
         requires left { HasStatementLeft s self.old.sessions }
         requires number { self.old.store.next < 2 ^ 63 - 1 }
-        ensures ready { OnOk result (IsReady B.Opening D.Disk (running self.new)) }
+        ensures ready { OnOk result (IsWorldReady B.Opening D.Disk (running self.new)) }
         ensures shows { (s : State) → WhereSound B.first D.Disk (Shows B.Opening B.first D.Disk s (running self.old) → OrFails (Shows B.Opening B.first D.Disk s (running self.new)) result) }
         ensures adds { AddsUnlessFails (AreOfTurn s) (D.moment_of self.new.store.disk) (running self.old) (running self.new) result }
         ensures nearer { OnOk result (turns_left self.new.sessions self.new.store < turns_left self.old.sessions self.old.store) }
@@ -98,12 +98,12 @@ impl<D: Disk, B: Origin + Opening> Engine<D, B> {
 
     /// A turn of a session that isn't over, and the answers of all commits that are durable then.
     pub(crate) fn serve(&mut self, alloc: Global, s: u8) -> Result<(), StoreFault>
-        requires ready { IsReady B.Opening D.Disk (running self.old) }
+        requires ready { IsWorldReady B.Opening D.Disk (running self.old) }
         requires left { HasStatementLeft s self.old.sessions }
         requires number { self.old.store.next < 2 ^ 63 - 1 }
-        ensures ready { OnOk result (IsReady B.Opening D.Disk (running self.new)) }
+        ensures ready { OnOk result (IsWorldReady B.Opening D.Disk (running self.new)) }
         ensures shows { (s : State) → WhereSound B.first D.Disk (Shows B.Opening B.first D.Disk s (running self.old) → OrFails (Shows B.Opening B.first D.Disk s (running self.new)) result) }
-        ensures adds { AddsUnlessFails (AreBy (who.Session s)) (D.moment_of self.new.store.disk) (running self.old) (running self.new) result }
+        ensures adds { AddsUnlessFails (AreEntriesBy (who.Session s)) (D.moment_of self.new.store.disk) (running self.old) (running self.new) result }
         ensures nearer { OnOk result (ComesNearer (who.Session s) (running self.old) (running self.new)) }
         ensures one { OnOk result (LogsOneAtMost (running self.old) (running self.new)) }
         ensures rolls { (t : State) → WhereSound B.first D.Disk (Shows B.Opening B.first D.Disk t (running self.old) → OnOk result (RollsBack s (running self.old) (running self.new))) }
@@ -127,7 +127,7 @@ impl<D: Disk, B: Origin + Opening> Engine<D, B> {
         ensures same { self.new ≡ record self.old { sessions = self.new.sessions; names = self.new.names } }
         ensures seats { (counted : ℕ) → AreSeated self.old.sessions counted → AreSeated self.new.sessions counted }
         ensures held { HoldsLeft (running self.new) }
-        ensures order { (start before : ℕ) → before ≤ D.moment_of self.old.store.disk → IsOrdered start before self.old.sessions → IsOrdered start (D.moment_of self.old.store.disk) self.new.sessions }
+        ensures order { (start before : ℕ) → before ≤ D.moment_of self.old.store.disk → IsTapeOrdered start before self.old.sessions → IsTapeOrdered start (D.moment_of self.old.store.disk) self.new.sessions }
     {
         if let Some(name) = name_gone(&mut self.names, undone) {
             self.sessions.release(alloc, name, self.store.moment());
@@ -143,10 +143,10 @@ impl<D: Disk, B: Origin + Opening> Engine<D, B> {
     ) -> Result<(), StoreFault>
         requires name { blank.name ≡ L.name }
         requires parts { (blank.parts ≡ L.parts) × (0 < blank.parts) }
-        requires ready { IsReady B.Opening D.Disk (running self.old) }
+        requires ready { IsWorldReady B.Opening D.Disk (running self.old) }
         requires room { HasTurnRoom self.old.store × (self.old.store.next < 2 ^ 63 - 1) }
         requires next { (v : UndoLeft) × Goes next self.old.undo v }
-        ensures ready { OnOk result (IsReady B.Opening D.Disk (running self.new)) }
+        ensures ready { OnOk result (IsWorldReady B.Opening D.Disk (running self.new)) }
         ensures shows { (s : State) → WhereSound B.first D.Disk (Shows B.Opening B.first D.Disk s (running self.old) → OrFails (Shows B.Opening B.first D.Disk s (running self.new)) result) }
         ensures adds { AddsUnlessFails AreReleases (D.moment_of self.new.store.disk) (running self.old) (running self.new) result }
         ensures one { OnOk result (left_in self.new.undo + 1 ≡ left_in self.old.undo) }
@@ -176,9 +176,9 @@ impl<D: Disk, B: Origin + Opening> Engine<D, B> {
 
     // Behind a turn that logged nothing all commits that are durable are answered.
     pub(crate) fn made_room(&mut self) -> Result<(), StoreFault>
-        requires ready { IsReady B.Opening D.Disk (running self.old) }
+        requires ready { IsWorldReady B.Opening D.Disk (running self.old) }
         requires short { HasTurnRoom self.old.store → ⊥ }
-        ensures ready { OnOk result (IsReady B.Opening D.Disk (running self.new)) }
+        ensures ready { OnOk result (IsWorldReady B.Opening D.Disk (running self.new)) }
         ensures shows { (s : State) → WhereSound B.first D.Disk (Shows B.Opening B.first D.Disk s (running self.old) → OrFails (Shows B.Opening B.first D.Disk s (running self.new)) result) }
         ensures adds { AddsUnlessFails AreAnswers (D.moment_of self.new.store.disk) (running self.old) (running self.new) result }
         ensures nearer { OnOk result (turns_for_room self.new.store < turns_for_room self.old.store) }
@@ -199,8 +199,8 @@ impl<D: Disk, B: Origin + Opening> Engine<D, B> {
 
     /// Makes all that waits in the log durable.
     pub(crate) fn settle(&mut self) -> Result<(), StoreFault>
-        requires ready { IsReady B.Opening D.Disk (running self.old) }
-        ensures ready { OnOk result (IsReady B.Opening D.Disk (running self.new)) }
+        requires ready { IsWorldReady B.Opening D.Disk (running self.old) }
+        ensures ready { OnOk result (IsWorldReady B.Opening D.Disk (running self.new)) }
         ensures shows { (s : State) → WhereSound B.first D.Disk (Shows B.Opening B.first D.Disk s (running self.old) → OrFails (Shows B.Opening B.first D.Disk s (running self.new)) result) }
         ensures none { OnOk result (self.new.store.waiting ≡ []) }
         ensures same { self.new ≡ record self.old { store = self.new.store } }
@@ -211,8 +211,8 @@ impl<D: Disk, B: Origin + Opening> Engine<D, B> {
 
     /// The totals of the loaded table. It takes no memory.
     pub(crate) fn count(&mut self) -> Result<Totals, StoreFault>
-        requires ready { IsReady B.Opening D.Disk (running self.old) }
-        ensures ready { OnOk result (IsReady B.Opening D.Disk (running self.new)) }
+        requires ready { IsWorldReady B.Opening D.Disk (running self.old) }
+        ensures ready { OnOk result (IsWorldReady B.Opening D.Disk (running self.new)) }
         ensures shows { (s : State) → WhereSound B.first D.Disk (Shows B.Opening B.first D.Disk s (running self.old) → OrFails (Shows B.Opening B.first D.Disk s (running self.new)) result) }
         ensures counts { (s : State) → WhereSound B.first D.Disk (Shows B.Opening B.first D.Disk s (running self.old)
             → IfOk result (AreTotals (rows_asked B.Opening s self.old.sessions.tape.items))) }
@@ -226,12 +226,12 @@ impl<D: Disk, B: Origin + Opening> Engine<D, B> {
     /// A turn of undo, where this is next: a turn for room, where the store has none, or it is undone. All commits that are durable then are
     /// answered.
     pub(crate) fn undo(&mut self, alloc: Global, next: UndoItem) -> Result<(), StoreFault>
-        requires ready { IsReady B.Opening D.Disk (running self.old) }
+        requires ready { IsWorldReady B.Opening D.Disk (running self.old) }
         requires number { self.old.store.next < 2 ^ 63 - 1 }
         requires next { (v : UndoLeft) × Goes next self.old.undo v }
-        ensures ready { OnOk result (IsReady B.Opening D.Disk (running self.new)) }
+        ensures ready { OnOk result (IsWorldReady B.Opening D.Disk (running self.new)) }
         ensures shows { (s : State) → WhereSound B.first D.Disk (Shows B.Opening B.first D.Disk s (running self.old) → OrFails (Shows B.Opening B.first D.Disk s (running self.new)) result) }
-        ensures adds { AddsUnlessFails (AreBy who.Undo) (D.moment_of self.new.store.disk) (running self.old) (running self.new) result }
+        ensures adds { AddsUnlessFails (AreEntriesBy who.Undo) (D.moment_of self.new.store.disk) (running self.old) (running self.new) result }
         ensures nearer { OnOk result (ComesNearer who.Undo (running self.old) (running self.new)) }
         ensures left { (self.new.size ≡ self.old.size) × (left_in self.new.undo ≤ left_in self.old.undo) }
         ensures pass { OnOk result (LeavesPass (running self.old) (running self.new)) }
@@ -252,9 +252,9 @@ impl<D: Disk, B: Origin + Opening> Engine<D, B> {
 
     // What the flusher does next to the store.
     fn flush(&mut self, alloc: Global) -> Result<FlushTurn, StoreFault>
-        requires ready { IsReady B.Opening D.Disk (running self.old) }
+        requires ready { IsWorldReady B.Opening D.Disk (running self.old) }
         requires number { self.old.store.next < 2 ^ 63 - 1 }
-        ensures ready { OnOk result (IsReady B.Opening D.Disk (running self.new)) }
+        ensures ready { OnOk result (IsWorldReady B.Opening D.Disk (running self.new)) }
         ensures shows { (s : State) → WhereSound B.first D.Disk (Shows B.Opening B.first D.Disk s (running self.old) → OrFails (Shows B.Opening B.first D.Disk s (running self.new)) result) }
         ensures ends { AnswersTurn self.old.store self.new.store result }
         ensures same { self.new ≡ record self.old { store = self.new.store } }
@@ -266,9 +266,9 @@ impl<D: Disk, B: Origin + Opening> Engine<D, B> {
     /// A turn of the flusher: the first of its four things that there is to do, and the answers of all commits that are durable then; where there
     /// is none it is idle, or fell short, where memory was refused for a generation of the log that is due.
     pub(crate) fn write_behind(&mut self, alloc: Global) -> Result<Turn, StoreFault>
-        requires ready { IsReady B.Opening D.Disk (running self.old) }
+        requires ready { IsWorldReady B.Opening D.Disk (running self.old) }
         requires number { self.old.store.next < 2 ^ 63 - 1 }
-        ensures ready { OnOk result (IsReady B.Opening D.Disk (running self.new)) }
+        ensures ready { OnOk result (IsWorldReady B.Opening D.Disk (running self.new)) }
         ensures shows { (s : State) → WhereSound B.first D.Disk (Shows B.Opening B.first D.Disk s (running self.old) → OrFails (Shows B.Opening B.first D.Disk s (running self.new)) result) }
         ensures adds { AddsUnlessFails AreAnswers (D.moment_of self.new.store.disk) (running self.old) (running self.new) result }
         ensures went { IfOk result (FlusherEnds (running self.old) (running self.new)) }

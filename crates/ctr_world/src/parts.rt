@@ -9,7 +9,7 @@ ghost use Rattle.ctr_base.specs.Base.{WhereSound};
 ghost use Rattle.ctr_redo.specs.States.{State};
 ghost use Rattle.ctr_record_effects.specs.Standing.{StandsForDatabase};
 ghost use Rattle.ctr_world.specs.Counted.{TotalsAre};
-ghost use Rattle.ctr_world.specs.Turns.{EndsTurn, FinishesBy, HasStatementLeft, IsOver, RollsBack, TakesFirst};
+ghost use Rattle.ctr_world.specs.Turns.{EndsTurn, FinishesBy, HasStatementLeft, IsWorldOver, RollsBack, TakesFirst};
 
 use crate::engine::Engine;
 use crate::left::{first_left, has_left};
@@ -192,7 +192,7 @@ impl<D: Disk, B: Origin + Opening> Parts<D, B> {
         requires kept { Kept B.Opening B.first D.Disk (held self.old) }
         ensures kept { Kept B.Opening B.first D.Disk (held self.new) }
         ensures fewer { result ≡ Went → turns_left self.new.engine.sessions self.new.engine.store < turns_left self.old.engine.sessions self.old.engine.store }
-        ensures over { result ≢ Went → self.new.stop ≡ None → IsOver (held self.new) }
+        ensures over { result ≢ Went → self.new.stop ≡ None → IsWorldOver (held self.new) }
         ensures turn { result ≡ Went → TakesFirst D.Disk (held self.old) (held self.new) }
         ensures still { result ≢ Went → (held self.new).running.sessions.tape.items ≡ (held self.old).running.sessions.tape.items }
         ensures stopped { self.old.stop ≢ None → (result ≢ Went) × (self.new ≡ self.old) }
@@ -210,7 +210,7 @@ impl<D: Disk, B: Origin + Opening> Parts<D, B> {
     fn run(&mut self, alloc: Global)
         requires kept { Kept B.Opening B.first D.Disk (held self.old) }
         ensures kept { Kept B.Opening B.first D.Disk (held self.new) }
-        ensures over { self.new.stop ≡ None → IsOver (held self.new) }
+        ensures over { self.new.stop ≡ None → IsWorldOver (held self.new) }
         ensures turns { FinishesBy D.Disk (held self.old) (held self.new).running.sessions.tape.items }
         ensures stopped { self.old.stop ≢ None → self.new ≡ self.old }
     {
@@ -221,7 +221,7 @@ impl<D: Disk, B: Origin + Opening> Parts<D, B> {
     fn settle(&mut self)
         requires kept { Kept B.Opening B.first D.Disk (held self.old) }
         ensures kept { Kept B.Opening B.first D.Disk (held self.new) }
-        ensures over { IsOver (held self.old) → IsOver (held self.new) }
+        ensures over { IsWorldOver (held self.old) → IsWorldOver (held self.new) }
         ensures none { self.new.stop ≡ None → self.new.engine.store.waiting ≡ [] }
         ensures tape { self.new.engine.sessions.tape.items ≡ self.old.engine.sessions.tape.items }
         ensures stopped { self.old.stop ≢ None → self.new ≡ self.old }
@@ -243,7 +243,7 @@ impl<D: Disk, B: Origin + Opening> Parts<D, B> {
     fn count(&mut self) -> Totals
         requires kept { Kept B.Opening B.first D.Disk (held self.old) }
         ensures kept { Kept B.Opening B.first D.Disk (held self.new) }
-        ensures over { IsOver (held self.old) → IsOver (held self.new) }
+        ensures over { IsWorldOver (held self.old) → IsWorldOver (held self.new) }
         ensures none { WhereSound B.first D.Disk (self.old.engine.store.waiting ≡ [] → self.new.stop ≡ None → self.new.engine.store.waiting ≡ []) }
         ensures counts { TotalsAre B.Opening B.first D.Disk true (held self.new) result }
         ensures tape { self.new.engine.sessions.tape.items ≡ self.old.engine.sessions.tape.items }
@@ -267,7 +267,7 @@ impl<D: Disk, B: Origin + Opening> Parts<D, B> {
     fn count_if(&mut self, totals: bool) -> Totals
         requires kept { Kept B.Opening B.first D.Disk (held self.old) }
         ensures kept { Kept B.Opening B.first D.Disk (held self.new) }
-        ensures over { IsOver (held self.old) → IsOver (held self.new) }
+        ensures over { IsWorldOver (held self.old) → IsWorldOver (held self.new) }
         ensures none { WhereSound B.first D.Disk (self.old.engine.store.waiting ≡ [] → self.new.stop ≡ None → self.new.engine.store.waiting ≡ []) }
         ensures counts { TotalsAre B.Opening B.first D.Disk totals (held self.new) result }
         ensures tape { self.new.engine.sessions.tape.items ≡ self.old.engine.sessions.tape.items }
@@ -281,7 +281,7 @@ impl<D: Disk, B: Origin + Opening> Parts<D, B> {
     pub(crate) fn finish(&mut self, alloc: Global, totals: bool) -> Totals
         requires kept { Kept B.Opening B.first D.Disk (held self.old) }
         ensures kept { Kept B.Opening B.first D.Disk (held self.new) }
-        ensures over { self.new.stop ≡ None → IsOver (held self.new) }
+        ensures over { self.new.stop ≡ None → IsWorldOver (held self.new) }
         ensures none { WhereSound B.first D.Disk (self.new.stop ≡ None → self.new.engine.store.waiting ≡ []) }
         ensures counts { TotalsAre B.Opening B.first D.Disk totals (held self.new) result }
         ensures turns { FinishesBy D.Disk (held self.old) (held self.new).running.sessions.tape.items }

@@ -8,7 +8,7 @@ ghost use Rattle.ctr_base.specs.Base.{WhereSound};
 ghost use Rattle.ctr_store.specs.Opening.{IsUndamaged};
 ghost use Rattle.ctr_store.specs.StoreOpening.{OpensStore};
 ghost use Rattle.ctr_undo.specs.Left.{left_in};
-ghost use Rattle.ctr_pass.specs.exec_Order.{IsOrdered};
+ghost use Rattle.ctr_pass.specs.exec_Order.{IsTapeOrdered};
 ghost use Rattle.ctr_pass.specs.exec_Runners.{AreRunners, runner_at};
 ghost use Rattle.ctr_world.specs.Opened.{IsOpenedOn, CanRun};
 ghost use Rattle.ctr_area.specs.Sound.{IsBare};
@@ -147,7 +147,7 @@ impl<D: Disk, B: Origin + Opening> World<D, B> {
     /// The tape stands in the order of the script, and has led each session to where it is; also where the World is stopped it stands in that order. The
     /// call does nothing: what it ensures holds of each World.
     pub fn stands_in_order(&self)
-        ensures going { self.now.stop ≡ None → IsOrdered B.start (D.moment_of self.now.running.store.disk) self.now.running.sessions }
+        ensures going { self.now.stop ≡ None → IsTapeOrdered B.start (D.moment_of self.now.running.store.disk) self.now.running.sessions }
         ensures seats { self.now.stop ≡ None → (length self.now.running.sessions.runners.items ≡ 8) × AreRunners B.lines 1 self.now.running.sessions.runners.items }
         ensures tape { IsTapeOf B.Opening (D.moment_of self.now.running.store.disk) self.now.running.sessions.tape.items }
         ensures lines { self.now.running.sessions.script.lines ≡ B.lines }

@@ -67,7 +67,7 @@ pub record IsAtWrite {D : Type 0} (g : Ghosts D) (c : Start) (opened : D) (a : V
   pub tables : AreTables more
   pub carries : AreOfStage title entry key stage more (w.facts s)
 
--- what it asks for
+-- What a session's Write asks for.
 abbrev pub wish_of : {D : Type 0} {g : Ghosts D} {c : Start} {opened : D} {a : View D} {w : Mind}
     → IsAtWrite g c opened a w → Wish
 wish_of is = record { x = is.seat.session.me; entry = is.entry; key = is.key; head = is.head }

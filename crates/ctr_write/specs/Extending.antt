@@ -10,8 +10,8 @@ use Rattle.ctr_write.specs.declared.stages.Stage.TheVariants.{Looking, Extending
 use Rattle.ctr_write.specs.declared.stages.Written.{Written}
 use Rattle.ctr_write.specs.declared.stages.Written.TheVariants.{On, Grown, Full}
 
--- The page is further; it is linked, and the row's slot is looked for again; more pages are counted;
--- or there is none.
+-- The page is further; it is linked, and the row's slot is looked for again; more pages are
+-- counted; or there is none.
 abbrev pub written_from : Chain → Extended → Written
 written_from chain (OnItsWay way) = On (Extending chain way)
 written_from chain Linked = On Looking

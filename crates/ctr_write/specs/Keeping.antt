@@ -44,7 +44,7 @@ pub record Off : Type 0 where
   pub at : Place
   pub version : RowVersion
 
--- the same
+-- What is kept off its row, by its parts.
 abbrev pub off : ℕ → ℕ → Place → RowVersion → Off
 off x e at version = record { x = x; e = e; at = at; version = version }
 

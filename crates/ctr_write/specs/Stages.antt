@@ -73,9 +73,9 @@ IsCountedWrite Done counted = Unit {0}
 IsCountedWrite Grown counted = Unit {0}
 IsCountedWrite Full counted = Unit {0}
 
--- The room of the tables behind a turn that may add so many items: an item is added with a page that
--- is taken, and goes as it is linked. A version is kept, and more pages are counted, only by a turn
--- that may add one. No number is drawn.
+-- The room of the tables behind a turn that may add so many items: an item is added with a page
+-- that is taken, and goes as it is linked. A version is kept, and more pages are counted, only by a
+-- turn that may add one. No number is drawn.
 abbrev pub LeavesItem : ℕ → Written → TablesKept → TablesKept → Type 0
 LeavesItem n (On Looking) k l = LeavesRoom n Linked k l
 LeavesItem n (On (Extending chain way)) k l = LeavesRoom n (OnItsWay way) k l
@@ -84,8 +84,8 @@ LeavesItem n Done k l = AddsItems 0 k l
 LeavesItem n Grown k l = LeavesRoom n IsGrown k l
 LeavesItem n Full k l = l ≡ k
 
--- How a turn moves a store on: the log's next number is one more behind a turn that logged its record,
--- and else what it was; and behind one that grew more pages are counted.
+-- How a turn moves a store on: the log's next number is one more behind a turn that logged its
+-- record, and else what it was; and behind one that grew more pages are counted.
 abbrev pub MovesWrite : {D : Type 0} → Written → View D → View D → Type 0
 MovesWrite (On stage) a b = b.next ≡ a.next + 1
 MovesWrite Done a b = b.next ≡ a.next + 1

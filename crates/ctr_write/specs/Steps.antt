@@ -48,7 +48,7 @@ pub record WantsRows (wish : Wish) (s t : State) (w : Written) : Type 0 where
   pub none : FindsFree (area_in s) wish.entry (bucket_of wish.key) None
   pub extends : ExtendsFor wish.x (Rows wish.entry (bucket_of wish.key)) Wanted s t w
 
--- one of these two
+-- The first row of a key is laid in a free slot, or a page of rows is wanted.
 abbrev pub EndsPlacing : Wish → State → State → Written → Type 0
 EndsPlacing wish s t w = LaysFirst wish s t w ⊎ WantsRows wish s t w
 
@@ -74,7 +74,7 @@ pub record WantsVersions (x e : ℕ) (s t : State) (w : Written) : Type 0 where
   pub none : FindsFreeEntry (area_in s) e None
   pub extends : ExtendsFor x (Versions e) Wanted s t w
 
--- one of these two
+-- A version is kept in a free entry, or a page of versions is wanted.
 abbrev pub EndsKeeping : Off → State → State → Written → Type 0
 EndsKeeping o s t w = KeepsFirst o s t w ⊎ WantsVersions o.x o.e s t w
 
@@ -106,7 +106,7 @@ pub record KeepsOne (wish : Wish) (at : Place) (kept : Option Place) (s t : Stat
   pub is : IsToKeep (width_in (area_in s) wish.entry) ((area_in s).slot at) version
   pub ends : EndsKeeping (off wish.x wish.entry at version) s t w
 
--- one of these two
+-- A row is laid over its slot, or the version that leaves is kept first.
 abbrev pub EndsOver : Wish → Place → Option Place → State → State → Written → Type 0
 EndsOver wish at kept s t w = LaysOver wish at s t w ⊎ KeepsOne wish at kept s t w
 

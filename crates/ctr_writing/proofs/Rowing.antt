@@ -57,9 +57,9 @@ use Rattle.ctr_looks.specs.ctr_wishes.Heads.{version_by}
 use Rattle.ctr_looks.specs.ctr_wishes.Models.{IsModels, reply_of}
 use Rattle.ctr_looks.specs.ctr_wishes.declared.making.Prepared.{Prepared}
 use Rattle.ctr_looks.specs.ctr_wishes.declared.making.Prepared.TheVariants.{Refused, Lays}
-use Rattle.ctr_looks.specs.ctr_told.Turning.{TellsOf}
+use Rattle.ctr_looks.specs.ctr_told.Turning.{TellsTurnOf}
 use Rattle.ctr_looks.specs.ctr_told.Writing.{IsOfStatement}
-use Rattle.ctr_looks.specs.ctr_session_world.Told.{CountsOnTables, IsKeptOn, IsNextOf, IsTold}
+use Rattle.ctr_looks.specs.ctr_session_world.Told.{CountsOnTables, IsKeptOn, IsNextOf, IsActTold}
 use Rattle.ctr_looks.specs.ctr_session_world.World.{SessionsHeld, AreInTables, IsInTable, names_in}
 use Rattle.ctr_looks.proofs.ctr_session_world.Alike.{AreAlike, alike_itself, in_table_still, shows_alike}
 use Rattle.ctr_looks.proofs.ctr_session_world.Changed.{changed_told}
@@ -127,7 +127,7 @@ abbrev pub TakesTurn : {D : Type 0} → Ghosts D → Type 0
 TakesTurn {D} g = (c : Start) (opened : D) (a : View D) (w : Mind) (writes : IsAtWrite g c opened a w) → MayTakeTurn (wish_of writes) writes.stage a.now
 
 abbrev pub Refuses : {D : Type 0} → Ghosts D → Type 0
-Refuses {D} g = (c : Start) (opened : D) (a b : View D) (w : Mind) (s : ℕ) (tells : TellsOf g c opened a b w s) (x : Act) (why : Refusal) → MayCome c w tells.e x (reply.Refused why) → RestsBehind g a b
+Refuses {D} g = (c : Start) (opened : D) (a b : View D) (w : Mind) (s : ℕ) (tells : TellsTurnOf g c opened a b w s) (x : Act) (why : Refusal) → MayCome c w tells.e x (reply.Refused why) → RestsBehind g a b
     → KeepsWorld g c opened b (telling tells.e x (reply.Refused why) w w)
 
 -- a page that is on its way is taken further by a record
@@ -396,7 +396,7 @@ module _ {D : Type 0} (g : Ghosts D) (c : Start) (opened : D) (a b : View D) (h 
   -- ---- it is refused
 
   module _ (idle_now : CountsOnTables (w.facts s)) where
-    refused_so : (why : Refusal) → IsRefusedFor why a.now b.now → IsTold next h act.Write (reply.Refused why) → TurnOfRow next h e prepared (Told (reply.Refused why))
+    refused_so : (why : Refusal) → IsRefusedFor why a.now b.now → IsActTold next h act.Write (reply.Refused why) → TurnOfRow next h e prepared (Told (reply.Refused why))
     refused_so why cause told = (told, subst CountsOnTables (sym told.counts) idle_now, cause)
 
     module _ (rested : RestsBehind g a b) (told : Refuses g) where

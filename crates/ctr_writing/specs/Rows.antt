@@ -22,7 +22,7 @@ use Rattle.ctr_looks.specs.ctr_wishes.Heads.{version_by}
 use Rattle.ctr_looks.specs.ctr_wishes.declared.making.Prepared.{Prepared}
 use Rattle.ctr_looks.specs.ctr_wishes.declared.making.Prepared.TheVariants.{Refused, Lays}
 use Rattle.ctr_looks.specs.ctr_session_world.World.{SessionsHeld}
-use Rattle.ctr_looks.specs.ctr_session_world.Told.{CountsOnTables, IsNextOf, IsTold, IsKeptOn}
+use Rattle.ctr_looks.specs.ctr_session_world.Told.{CountsOnTables, IsNextOf, IsActTold, IsKeptOn}
 use Rattle.ctr_looks.specs.Locking.{MayWriteRow}
 use Rattle.ctr_writing.specs.Wants.{HasRoomCause}
 use Rattle.ctr_writing.specs.declared.rows.Wrote.{Wrote}
@@ -59,8 +59,8 @@ IsBetweenTurns (Kept q) = Unit {0}
 abbrev pub wish_by : ℕ → ℕ → ℤ → HeadMade → Wish
 wish_by x e key head = record { x = x; entry = e; key = key; head = version_by x head }
 
--- A session writes the row of its statement in the table of an entry, as it was prepared, and so far
--- it is.
+-- A session writes the row of its statement in the table of an entry, as it was prepared, and so
+-- far it is.
 pub record IsAtRow (c : Start) (s : ℕ) (statement : Statement) (w : Mind) (e : ℕ)
     (prepared : Prepared) (stage : Stage) : Type 0 where
   pub may : MayWriteRow c s statement w e prepared
@@ -75,21 +75,21 @@ abbrev pub WentBy : {D : Type 0} → View D → View D → Wrote → Type 0
 WentBy a b (On stage) = WentOn a b
 WentBy a b (Told r) = Unit {0}
 
--- What a turn of the Write leaves, by what it answers: it goes on, and nothing is told; or its reply
--- is told, and from then on its session counts on tables. It wants room where there is none.
+-- What a turn of the Write leaves, by what it answers: it goes on, and nothing is told; or its
+-- reply is told, and from then on its session counts on tables. It wants room where there is none.
 abbrev pub TurnOfRow : {D : Type 0} {g : Ghosts D} {c : Start} {opened : D} {a b : View D}
     {h : SessionsHeld} {s : ℕ} {statement : Statement}
     → IsNextOf g c opened a b h s statement 1 → SessionsHeld → ℕ → Prepared → Wrote → Type 0
 TurnOfRow {c = c} {s = s} {statement = statement} next now e p (On stage) =
     (kept : IsKeptOn next now) × IsAtRow c s statement kept.mind e p stage
 TurnOfRow {a = a} {b = b} {s = s} next now e p (Told r) =
-    (told : IsTold next now act.Write r) × CountsOnTables (told.mind.facts s)
+    (told : IsActTold next now act.Write r) × CountsOnTables (told.mind.facts s)
     × HasRoomCause r a.now b.now
 
 -- ---- whatever the disk tells
 
--- A session is in a transaction, for which room is kept for as many items of the secondary log as the
--- next turn may add.
+-- A session is in a transaction, for which room is kept for as many items of the secondary log as
+-- the next turn may add.
 pub record HasStageRoom (s : ℕ) (txns : TxnsHeld) (stage : Stage) : Type 0 where
   pub t : TxnHeld
   pub there : txn_of s txns ≡ Some t

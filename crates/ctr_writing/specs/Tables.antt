@@ -10,7 +10,7 @@ use Rattle.ctr_looks.specs.kept_Turns.{Start}
 use Rattle.ctr_looks.specs.kept_Walk.{Mind}
 use Rattle.ctr_store.specs.Store.{View}
 use Rattle.ctr_looks.specs.ctr_session_world.World.{SessionsHeld}
-use Rattle.ctr_looks.specs.ctr_session_world.Told.{CountsOnTables, IsNextOf, IsTold}
+use Rattle.ctr_looks.specs.ctr_session_world.Told.{CountsOnTables, IsNextOf, IsActTold}
 use Rattle.ctr_looks.specs.declared.tables.TableWrite.{TableWrite}
 use Rattle.ctr_looks.specs.Locking.{MayWriteTable}
 use Rattle.ctr_writing.specs.Wants.{HasRoomCause}
@@ -33,5 +33,5 @@ abbrev pub TurnOfTable : {D : Type 0} {g : Ghosts D} {c : Start} {opened : D} {a
     {h : SessionsHeld} {s : ℕ} {statement : Statement}
     → IsNextOf g c opened a b h s statement 1 → SessionsHeld → Reply → Type 0
 TurnOfTable {a = a} {b = b} {s = s} next now r =
-    (told : IsTold next now act.Write r) × CountsOnTables (told.mind.facts s)
+    (told : IsActTold next now act.Write r) × CountsOnTables (told.mind.facts s)
     × HasRoomCause r a.now b.now

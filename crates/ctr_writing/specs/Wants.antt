@@ -8,8 +8,8 @@ use Rattle.ctr_looks.specs.ctr_ddl.Tables.{IsCatalogFull}
 use Rattle.ctr_looks.specs.ctr_extend.Steps.{IsFull}
 
 -- A row is refused as Full where 30,000 pages are counted and none of them is free, a table as
--- CatalogFull where no entry of the catalog is, and then nothing changes. Of other refusals nothing is
--- said: their causes are the model's.
+-- CatalogFull where no entry of the catalog is, and then nothing changes. Of other refusals nothing
+-- is said: their causes are the model's.
 abbrev pub IsRefusedFor : Refusal → State → State → Type 0
 IsRefusedFor refusal.NoTransaction s t = Unit {0}
 IsRefusedFor refusal.InTransaction s t = Unit {0}

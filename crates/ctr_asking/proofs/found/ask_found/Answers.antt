@@ -6,7 +6,7 @@ use Rattle.ctr_model.specs.Refusals.{first_of, key_refusals, name_refusals, pres
 use Rattle.ctr_wishes.specs.actions_Sites.{site_of}
 use Rattle.ctr_asking.specs.declared.asker.Answer.{Answer}
 use Rattle.ctr_asking.specs.declared.asker.Answer.TheVariants.{Free}
-use Rattle.ctr_asking.specs.Asking.{FindsFor, IsOf, refusal_told}
+use Rattle.ctr_asking.specs.Asking.{FindsFor, AnswersEntry, refusal_told}
 use Rattle.ctr_asking.specs.Causes.{presence_refused}
 use Rattle.ctr_asking.proofs.Firsts.{parts_none}
 use Rattle.ctr_asking.proofs.Presence.{nothing_else}
@@ -20,7 +20,7 @@ pub returns-in-None-clause-of : goal.returns-in-None-clause-of
 returns-in-None-clause-of g c = sym c.in-None.is
 
 pub returns-in-Some-clause-of : goal.returns-in-Some-clause-of
-returns-in-Some-clause-of g c = subst (λ (o : Option ℕ). IfOk c.ask_table.result (IsOf o)) (sym c.in-Some.is) c.ask_table.ensures.of
+returns-in-Some-clause-of g c = subst (λ (o : Option ℕ). IfOk c.ask_table.result (AnswersEntry o)) (sym c.in-Some.is) c.ask_table.ensures.of
 
 pub returns-in-None-clause-model : goal.returns-in-None-clause-model
 returns-in-None-clause-model g c = λ told sound k name finds clear.

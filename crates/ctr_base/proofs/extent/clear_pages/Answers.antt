@@ -5,7 +5,7 @@ use Rattle.ctr_disk.specs.Crash.{Within}
 use Rattle.ctr_disk.specs.Device.{LeavesOnly, IsSettled}
 use Rattle.ctr_disk.proofs.Moments.{starts, goes_on}
 use Rattle.ctr_redo.specs.home_Blocks.{zero_bytes}
-use Rattle.ctr_base.specs.Extent.{KeepsPages}
+use Rattle.ctr_base.specs.Extent.{KeepsPageBytes}
 use Rattle.ctr_base.proofs.ExtentLaws.{keeps_start, keeps_torn, cleared_start, cleared_more}
 use Rattle.ctr_base.proofs.extent.clear_pages.Given.{Over}
 use Rattle.ctr_base.proofs.extent.clear_pages.Goals.{After-write}
@@ -16,7 +16,7 @@ loop-page-init g c =
     let d = g.D.Disk in
     let old = c.args.disk.now in
     let n = 8256 * c.args.from in
-    let P : Image → Type 0 = KeepsPages n (d.reads old) in
+    let P : Image → Type 0 = KeepsPageBytes n (d.reads old) in
     record {
       behind = omega arith;
       at_most = c.requires.order;
@@ -29,7 +29,7 @@ loop-page-init g c =
     }
 
 -- what a write of zeros may leave
-now_after : (g : Over) (c : After-write g) → IsSettled g.D.Disk c.args.disk.now → Within (g.D.Disk.images c.write.new.self) (KeepsPages (8256 * c.args.from) (g.D.Disk.reads c.args.disk.now))
+now_after : (g : Over) (c : After-write g) → IsSettled g.D.Disk c.args.disk.now → Within (g.D.Disk.images c.write.new.self) (KeepsPageBytes (8256 * c.args.from) (g.D.Disk.reads c.args.disk.now))
 now_after g c s i is =
     let d = g.D.Disk in
     let t = c.write.ensures.crash i is in
@@ -37,10 +37,10 @@ now_after g c s i is =
     let behind = before.behind in
     keeps_torn (8256 * c.args.from) (c.loop-page.page * 8256) _ (d.reads c.args.disk.now) t.0 i (c.requires.long s.told) (omega (arith, behind)) (before.now s t.0 t.1) t.2
 
-goes_after : (g : Over) (c : After-write g) → IsSettled g.D.Disk c.args.disk.now → LeavesOnly g.D.Disk c.args.disk.now c.write.new.self (KeepsPages (8256 * c.args.from) (g.D.Disk.reads c.args.disk.now))
+goes_after : (g : Over) (c : After-write g) → IsSettled g.D.Disk c.args.disk.now → LeavesOnly g.D.Disk c.args.disk.now c.write.new.self (KeepsPageBytes (8256 * c.args.from) (g.D.Disk.reads c.args.disk.now))
 goes_after g c s =
     let d = g.D.Disk in
-    goes_on d c.args.disk.now c.loop-page.disk c.write.new.self (KeepsPages (8256 * c.args.from) (d.reads c.args.disk.now)) (d.images c.write.new.self) (c.loop-page.invariant.goes s) c.write.ensures.time (now_after g c s)
+    goes_on d c.args.disk.now c.loop-page.disk c.write.new.self (KeepsPageBytes (8256 * c.args.from) (d.reads c.args.disk.now)) (d.images c.write.new.self) (c.loop-page.invariant.goes s) c.write.ensures.time (now_after g c s)
 
 pub returns-in_err-write-clause-any_moment : goal.returns-in_err-write-clause-any_moment
 returns-in_err-write-clause-any_moment g c = goes_after g (goal.at.returns-in_err-write-clause-any_moment g c).After-write

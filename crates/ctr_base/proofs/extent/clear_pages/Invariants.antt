@@ -2,7 +2,7 @@ use Rattle.std.proofs.Common.{◌≡◌, ◌*◌, ◌-◌, ◌≤◌}
 use Rattle.std.specs.Prelude.{IsTrue}
 use Rattle.ctr_disk.specs.Device.{LeavesOnly, IsSettled}
 use Rattle.ctr_disk.specs.Crash.{Within}
-use Rattle.ctr_base.specs.Extent.{KeepsPages, AreCleared}
+use Rattle.ctr_base.specs.Extent.{KeepsPageBytes, AreCleared}
 use Rattle.ctr_base.proofs.extent.clear_pages.Given as goal
 
 -- the pages so far are cleared, and what stands before them is as it was
@@ -13,8 +13,8 @@ invariant-loop-page g l =
     record {
       behind : l.from ≤ l.page;
       at_most : l.page ≤ l.to;
-      goes : IsSettled d first → LeavesOnly d first l.disk (KeepsPages (8256 * l.from) (d.reads first));
-      now : IsSettled d first → Within (d.images l.disk) (KeepsPages (8256 * l.from) (d.reads first));
+      goes : IsSettled d first → LeavesOnly d first l.disk (KeepsPageBytes (8256 * l.from) (d.reads first));
+      now : IsSettled d first → Within (d.images l.disk) (KeepsPageBytes (8256 * l.from) (d.reads first));
       cleared : IsTrue d.tells → AreCleared l.from l.page (d.reads first) (d.reads l.disk);
       later : d.moment_of first ≤ d.moment_of l.disk;
       faults : d.faults_of l.disk ≡ d.faults_of first;

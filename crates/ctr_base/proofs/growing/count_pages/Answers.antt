@@ -4,7 +4,7 @@ use Rattle.ctr_disk.proofs.Moments.{weaker, joined, on_ok, settled_by}
 use Rattle.ctr_redo.specs.home_Block_TheVariants.{Root as RootBlock}
 use Rattle.ctr_redo.specs.home_Roots.{root_block, root_value}
 use Rattle.ctr_redo.specs.home_Writing.{IsAbove, IsOldOrNewValue}
-use Rattle.ctr_base.specs.Extent.{KeepsPages}
+use Rattle.ctr_base.specs.Extent.{KeepsPageBytes}
 use Rattle.ctr_base.specs.Growth.{IsGrowing, HasGrown}
 use Rattle.ctr_base.proofs.growing.count_pages.Goals as goal
 
@@ -18,7 +18,7 @@ returns-in_err-clear_pages-clause-any_moment g c settled =
     let d = g.D.Disk in
     let old = c.args.disk.now in
     let P = IsGrowing c.args.from c.args.more.now (d.reads old) in
-    weaker d old c.clear_pages.new.disk (KeepsPages (8256 * c.args.from) (d.reads old)) P (c.clear_pages.ensures.any_moment settled) (λ i is. inl is)
+    weaker d old c.clear_pages.new.disk (KeepsPageBytes (8256 * c.args.from) (d.reads old)) P (c.clear_pages.ensures.any_moment settled) (λ i is. inl is)
 
 pub returns-clause-any_moment : goal.returns-clause-any_moment
 returns-clause-any_moment g c settled =
@@ -29,7 +29,7 @@ returns-clause-any_moment g c settled =
     let told = settled.told in
     let P = IsGrowing c.args.from c.args.more.now (d.reads old) in
     let cleared = c.in_ok-clear_pages.ensures.cleared told in
-    let pages = weaker d old mid (KeepsPages (8256 * c.args.from) (d.reads old)) P (c.clear_pages.ensures.any_moment settled) (λ i is. inl is) in
+    let pages = weaker d old mid (KeepsPageBytes (8256 * c.args.from) (d.reads old)) P (c.clear_pages.ensures.any_moment settled) (λ i is. inl is) in
     let root = weaker d mid new (IsOldOrNewValue RootBlock (root_block c.args.more.now) (d.reads mid)) P (c.write_root.ensures.any_moment (settled_by d mid told c.in_ok-clear_pages.ensures.durable)) (λ i is. inr (d.reads mid, cleared, is)) in
     joined d old mid new P pages root
 

@@ -7,7 +7,7 @@ use Rattle.ctr_walk.specs.record_effects_States.{area_in}
 use Rattle.ctr_walk.proofs.Damages.{reads_err}
 use Rattle.ctr_emptying.specs.clean_OlderFacts.{OlderFacts}
 use Rattle.ctr_emptying.proofs.clean_Resting.{reads_on}
-use Rattle.ctr_cleaner.specs.Parts.{KeySaid}
+use Rattle.ctr_cleaner.specs.Parts.{KeyLockSaid}
 use Rattle.ctr_cleaner.proofs.Found.{is_used, older_said}
 use Rattle.ctr_cleaner.proofs.kept.is_open_older.Goals as goal
 
@@ -20,8 +20,8 @@ returns-clause-tells g c = λ told sound taken.
     let f = c.in-Ok.facts in
     let same = (c.in-Ok.ensures.leaves.logs told sound).now in
     older_said c.args.locks.now e c.args.store.now.now c.args.place f c.is_open_key.result (c.in-Ok.ensures.tells told sound) (is_used f.used c.if-not-facts.false)
-    (subst (λ key. IfOk c.is_open_key.result (KeySaid c.args.locks.now e key c.args.store.now.now)) (c.new.ensures ∙ to_z-of_z w64 f.key (search rules))
-    (subst (λ (s : State). ((area_in s).title e).state ≢ 0 → IfOk c.is_open_key.result (KeySaid c.args.locks.now e c.new.result s)) same (c.is_open_key.ensures.tells told sound) taken))
+    (subst (λ key. IfOk c.is_open_key.result (KeyLockSaid c.args.locks.now e key c.args.store.now.now)) (c.new.ensures ∙ to_z-of_z w64 f.key (search rules))
+    (subst (λ (s : State). ((area_in s).title e).state ≢ 0 → IfOk c.is_open_key.result (KeyLockSaid c.args.locks.now e c.new.result s)) same (c.is_open_key.ensures.tells told sound) taken))
 
 pub returns-clause-leaves : goal.returns-clause-leaves
 returns-clause-leaves g c = reads_on g.O.Origin.first g.D.Disk c.in-Ok.facts c.args.store.now c.look_older.new.store c.is_open_key.new.store c.is_open_key.result c.in-Ok.ensures.leaves c.is_open_key.ensures.leaves

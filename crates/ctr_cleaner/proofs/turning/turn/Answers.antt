@@ -10,7 +10,7 @@ use Rattle.ctr_emptying.specs.cursor_Position.{Position}
 use Rattle.ctr_emptying.specs.cursor_Standing.{IsPosition}
 use Rattle.ctr_cleaner.specs.declared.done.CleanTurn.{CleanTurn}
 use Rattle.ctr_cleaner.specs.declared.done.CleanTurn.TheVariants.{Moved, Over}
-use Rattle.ctr_cleaner.specs.Turning.{heeding, TurnsAt, next_cleaned, LeavesRoomBy, IsWithin}
+use Rattle.ctr_cleaner.specs.Turning.{heeding, TurnsAt, next_cleaned, LeavesRoomBy, IsTurnWithin}
 use Rattle.ctr_cleaner.specs.Parts.{DidAt, IsPassed}
 use Rattle.ctr_cleaner.proofs.Joined.{part_told}
 use Rattle.ctr_cleaner.proofs.Moved.{moved_counts, moved_by}
@@ -40,7 +40,7 @@ returns-in-Ok-Some g c =
         numbers = subst (λ (t : CleanTurn). mid.next ≡ next_cleaned t old.next) so (told_numbers old.next mid.next logged part.numbers);
         room = subst (λ (t : CleanTurn). LeavesRoomBy t old.meta mid.meta) so (told_left old.meta mid.meta logged part.left);
         counted = part.counted;
-        within = subst (λ (t : CleanTurn). IsWithin c.args.may.unlink mid.now.counted t) so (told_within c.args.may.unlink mid.now.counted logged part.lets);
+        within = subst (λ (t : CleanTurn). IsTurnWithin c.args.may.unlink mid.now.counted t) so (told_within c.args.may.unlink mid.now.counted logged part.lets);
       };
       cleans = λ told sound database its. subst (λ (t : CleanTurn). TurnsAt h x s mid.now t) so
           (told_did h x (IsPassed h x s) s mid.now logged (ok_told (DidAt h x (IsPassed h x s) s mid.now) r r (Some logged) refl is (c.clean_first.ensures.cleans told sound database its)));

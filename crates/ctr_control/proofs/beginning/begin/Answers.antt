@@ -8,7 +8,7 @@ use Rattle.ctr_writing.specs.ctr_session_world.txn_Held.{TxnsHeld}
 use Rattle.ctr_writing.specs.ctr_session_world.txn_Steps.{txn_begun}
 use Rattle.ctr_writing.specs.ctr_session_world.Ready.{LeavesReady, StaysUnasked}
 use Rattle.ctr_writing.specs.ctr_session_world.World.{SessionsHeld}
-use Rattle.ctr_writing.specs.ctr_session_world.Told.{IsTold}
+use Rattle.ctr_writing.specs.ctr_session_world.Told.{IsActTold}
 use Rattle.ctr_writing.proofs.ctr_session_world.Standing.{comes, none_there, seat_of, some_of}
 use Rattle.ctr_writing.proofs.ctr_session_world.Ready.{others_set, ready_as_was, ready_here, stands_with, unasked_set}
 use Rattle.ctr_writing.proofs.ctr_session_world.Resting.{rests_here, refused_told}
@@ -70,7 +70,7 @@ returns-in-Ok-clause-told g c = λ run opened locks tells sound going next.
     let keeps = c.a_begin_is_told.ensures run opened a a next.mind s (record { keeps = next.world.keeps; none = out; e = next.e; at_end = next.at_end }) come rested in
     let told = begun_told g.D.Disk run opened a a old locks s next one finds none c.begin.new.self c.meta.result.now.tables (ap (λ m. m.tables) c.meta.ensures.tables ∙ c.meta.ensures.now tells sound going)
     c.in-Ok.ensures.sets c.in-Ok.ensures.numbers (λ t sets. c.the_run_is_of_the_sessions.ensures.sets s t old c.begin.new.self one c.counts_sessions.ensures sets) c.key_locks_show.ensures.begin refl keeps in
-    subst (λ m. IsTold next (record { txns = c.begin.new.self; locks = locks }) act.Begin (reply.Began m))
+    subst (λ m. IsActTold next (record { txns = c.begin.new.self; locks = locks }) act.Begin (reply.Began m))
     (is_answered g.D.Disk run opened a a old locks s next one finds none ∙ sym c.in-Ok.ensures.number) told
 
 pub returns-in-Err-clause-told : goal.returns-in-Err-clause-told
@@ -86,5 +86,5 @@ returns-in-Err-clause-told g c = λ run opened locks tells sound going next.
     let out = outside g.D.Disk run opened a a old locks s next one finds none in
     let come = comes g.D.Disk run opened a a h s st.Begin 0 next act.Begin (reply.Refused refusal.OutOfMemory) refl tt (wants g.D.Disk run opened a a old locks s next one finds none) in
     let keeps = c.a_refusal_is_told.ensures.outside run opened a a next.mind s (record { keeps = next.world.keeps; none = out; e = next.e; at_end = next.at_end }) act.Begin refusal.OutOfMemory come rested in
-    subst (λ t. IsTold next (record { txns = t; locks = locks }) act.Begin (reply.Refused refusal.OutOfMemory)) (sym c.in-Err.ensures.err)
+    subst (λ t. IsActTold next (record { txns = t; locks = locks }) act.Begin (reply.Refused refusal.OutOfMemory)) (sym c.in-Err.ensures.err)
     (refused_told g.D.Disk run opened a a h s st.Begin 0 next act.Begin refusal.OutOfMemory rested keeps)

@@ -21,7 +21,7 @@ use Rattle.ctr_writing.specs.ctr_session_world.txn_Numbered.{NumbersHeld}
 use Rattle.ctr_writing.specs.ctr_session_world.txn_Steps.{txn_asked}
 use Rattle.ctr_writing.specs.ctr_session_world.Ready.{is_asking}
 use Rattle.ctr_writing.specs.ctr_session_world.World.{SessionsHeld}
-use Rattle.ctr_writing.specs.ctr_session_world.Told.{IsTold}
+use Rattle.ctr_writing.specs.ctr_session_world.Told.{IsActTold}
 use Rattle.ctr_writing.proofs.ctr_session_world.Standing.{comes, none_of, seat_of}
 use Rattle.ctr_writing.proofs.ctr_session_world.Ready.{others_set, own_set, ready_as_was, ready_here, ready_logged, stands_with, unasked_set}
 use Rattle.ctr_writing.proofs.ctr_session_world.Resting.{rests_here, refused_told}
@@ -97,7 +97,7 @@ returns-in-Ok-clause-told g c = λ run opened tells sound next idle.
     ∙ ap (λ l. record (run_of old) { commits = l }) (ap (λ (b : SessionHeld). old.numbers.commits ++ b.me ∷ []) seated.1 ∙ sym asked.0.commits)
     ∙ sym (c.the_run_is_of_the_sessions.ensures.same s writing.t (txn_asked (record { k = c.in-Ok.k; statement = c.args.statement }) writing.t) old new writing.there refl asked.1) in
     let told = asked_told g.D.Disk run opened a b old locks s next seat more counted.1 new run_now acts.does.leaves counted.0 keeps in
-    subst (λ m. IsTold next (record { txns = new; locks = locks }) act.Ask (reply.Asked m))
+    subst (λ m. IsActTold next (record { txns = new; locks = locks }) act.Ask (reply.Asked m))
     (sym (c.in-Ok.ensures.asks.0.0 ∙ ap (λ n. n + 1) (many_asked g.D.Disk run opened a b old locks s next seat))) told
 
 pub returns-then-is_reading-clause-told : goal.returns-then-is_reading-clause-told

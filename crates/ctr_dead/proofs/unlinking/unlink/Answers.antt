@@ -24,7 +24,7 @@ use Rattle.ctr_record_effects.specs.Standing.{IsDatabaseState}
 use Rattle.ctr_alloc.specs.actions_Sites.{site_of}
 use Rattle.ctr_alloc.specs.actions_Actions.{Unlinks, UnlinksOlder, Owes, site_after}
 use Rattle.ctr_trim.specs.passed_Logged.{IsLaidAs}
-use Rattle.ctr_dead.specs.Unlinking.{front_at, leaving_record, leaves_chain, OwedByLeaving, NextSaid}
+use Rattle.ctr_dead.specs.Unlinking.{front_at, leaving_record, leaves_chain, OwedByLeaving, NextPageSaid}
 use Rattle.ctr_dead.proofs.Three.{three_ok}
 use Rattle.ctr_dead.proofs.Firsts.{first_to_leave, undamaged, leaves_it}
 use Rattle.ctr_dead.proofs.unlinking.unlink.Given.{Over}
@@ -43,10 +43,10 @@ returns-in-Err-clause-one g c = inl (reads_err g.O.Origin.first g.D.Disk ℕ ⊤
 
 -- what is told of the page that was to leave
 ends_told : (g : Over) (c : goal.In-Err g) → IsTrue g.D.Disk.tells → IsSoundImage g.O.Origin.first
-    → EndsTold {T = ℕ} (damage_told g.D.Disk c.tell.new.store) (EndsOnPage c.args.p (NextSaid c.args.store.now.now.counted c.args.chain (pages_in c.args.store.now.now c.args.p))) (Err c.in-Err.fault)
+    → EndsTold {T = ℕ} (damage_told g.D.Disk c.tell.new.store) (EndsOnPage c.args.p (NextPageSaid c.args.store.now.now.counted c.args.chain (pages_in c.args.store.now.now c.args.p))) (Err c.in-Err.fault)
 ends_told g c told sound =
     let found = c.next_of-found in
-    told_ends (damage_told g.D.Disk c.tell.new.store) (EndsOnPage c.args.p (NextSaid c.args.store.now.now.counted c.args.chain (pages_in c.args.store.now.now c.args.p))) found.result (Err c.in-Err.fault)
+    told_ends (damage_told g.D.Disk c.tell.new.store) (EndsOnPage c.args.p (NextPageSaid c.args.store.now.now.counted c.args.chain (pages_in c.args.store.now.now c.args.p))) found.result (Err c.in-Err.fault)
     c.in-Err.ensures.told (told, sound) (found.ensures.leaves.refused told sound) (found.ensures.said told sound)
 
 pub returns-in-Err-clause-ends : goal.returns-in-Err-clause-ends
@@ -80,7 +80,7 @@ module _ (g : Over) (c : After-lay_front g) where
     said : (header_check c.args.chain s.counted (pages_in s p) ≡ Ok tt) × (c.in-Ok.next ≡ (header_in (pages_in s p)).next)
     said =
         let found = c.next_of-found in
-        told_ends (damage_told g.D.Disk c.tell.new.store) (EndsOnPage p (NextSaid s.counted c.args.chain (pages_in s p))) found.result (Ok c.in-Ok.next) c.in-Ok.ensures.told (told, sound)
+        told_ends (damage_told g.D.Disk c.tell.new.store) (EndsOnPage p (NextPageSaid s.counted c.args.chain (pages_in s p))) found.result (Ok c.in-Ok.next) c.in-Ok.ensures.told (told, sound)
         (found.ensures.leaves.refused told sound) (found.ensures.said told sound)
 
     whole : OnOk c.lay_front.result (IsWholePage (1 + chain_entry c.args.chain / 16) s)

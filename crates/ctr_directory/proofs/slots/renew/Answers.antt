@@ -4,7 +4,7 @@ use Rattle.ctr_rec.specs.types_Kind.{Kind}
 use Rattle.ctr_page.specs.declared.rows.Place.{Place}
 use Rattle.ctr_page.specs.Columns.{slot_start}
 use Rattle.ctr_page.specs.Damage.{slot_check}
-use Rattle.ctr_directory.specs.Keys.{key_on, slots_of, LeadsTo, with_key, over_slots, SlotsPass}
+use Rattle.ctr_directory.specs.Keys.{key_on, slots_of_kinds, KeysLead, with_key, over_slots, SlotsPass}
 use Rattle.ctr_directory.proofs.Leading.{leads_same, none_yet, next_one, one_slot_more}
 use Rattle.ctr_directory.proofs.slots.renew.Goals as goal
 
@@ -26,7 +26,7 @@ loop-slot-preserved c =
     let slot = c.loop-slot.slot in
     let number = c.args.number in
     let e = c.in_ok-renew_slot.ensures in
-    let below : slot < slots_of c.args.kinds.now = subst (λ k. slot < k) c.slots_on-count.ensures c.loop-slot-test.true in (
+    let below : slot < slots_of_kinds c.args.kinds.now = subst (λ k. slot < k) c.slots_on-count.ensures c.loop-slot-test.true in (
       one_more c.args.kinds.now c.args.counted slot c.args.page.now c.loop-slot.invariant.0 e.checked,
       λ keys leads was.
           let K = over_slots number slot new keys in
@@ -39,4 +39,4 @@ pub returns-clause-leads : goal.returns-clause-leads
 returns-clause-leads c = λ keys leads was.
     let new = λ (n : ℕ). key_on c.args.kinds.now n c.args.page.now in
     let all : c.loop-slot.slot ≡ c.slots_on-count.result = omega arith in
-    subst (λ k. LeadsTo (over_slots c.args.number k new keys) c.loop-slot.places) (all ∙ c.slots_on-count.ensures) (c.loop-slot.invariant.1 keys leads was)
+    subst (λ k. KeysLead (over_slots c.args.number k new keys) c.loop-slot.places) (all ∙ c.slots_on-count.ensures) (c.loop-slot.invariant.1 keys leads was)

@@ -11,7 +11,7 @@ use Rattle.ctr_pvs.proofs.walk_Joins.{answers_ok}
 use Rattle.ctr_cursor.specs.reading_PageSlots.{PageSlots}
 use Rattle.ctr_cursor.proofs.reading_Places.{page_slot}
 use Rattle.ctr_cursor.proofs.reading_Told.{reads_behind}
-use Rattle.ctr_emptying.specs.Looking.{is_settled, place_of}
+use Rattle.ctr_emptying.specs.Looking.{is_settled, place_at_slot}
 use Rattle.ctr_emptying.proofs.Settled.{none_yet, one_more, all_settled}
 use Rattle.ctr_emptying.proofs.heads.is_settled_page.Goals as goal
 
@@ -36,7 +36,7 @@ returns-in-Err-is_settled_at-clause-refused g c = λ chain told sound page.
     let n = c.loop-slot.slot in
     let p = c.args.p in
     let many = (c.in-Ok.ensures.are told sound).count ∙ ap (area_in s).room c.in-Ok.ensures.fits.1 in
-    subst (λ (t : State). IsDatabaseState t → IsAmong (place_of p n) (slot_places (area_in t) (chain_entry chain)) → c.in-Err-is_settled_at.fault ≡ Fault) (c.loop-slot.invariant.read.logs told sound).now
+    subst (λ (t : State). IsDatabaseState t → IsAmong (place_at_slot p n) (slot_places (area_in t) (chain_entry chain)) → c.in-Err-is_settled_at.fault ≡ Fault) (c.loop-slot.invariant.read.logs told sound).now
     (c.in-Err-is_settled_at.ensures.refused (chain_entry chain) told sound) page.sound (page_slot chain p s n page (subst (λ (m : ℕ). n < m) many c.loop-slot-test.true))
 
 pub returns-in-Err-is_settled_at-clause-leaves : goal.returns-in-Err-is_settled_at-clause-leaves
@@ -49,7 +49,7 @@ returns-in-Ok-false-clause-tells g c = λ told sound.
     let n = c.loop-slot.slot in
     let p = c.args.p in
     let many = (c.in-Ok.ensures.are told sound).count ∙ ap (area_in s).room c.in-Ok.ensures.fits.1 in
-    let is = subst (λ (t : State). c.in-Ok-false.field-0 ≡ is_settled t.tables ((area_in t).slot (place_of p n))) (c.loop-slot.invariant.read.logs told sound).now (c.in-Ok-false.ensures.tells told sound) in
+    let is = subst (λ (t : State). c.in-Ok-false.field-0 ≡ is_settled t.tables ((area_in t).slot (place_at_slot p n))) (c.loop-slot.invariant.read.logs told sound).now (c.in-Ok-false.ensures.tells told sound) in
     (n, subst (λ (m : ℕ). n < m) many c.loop-slot-test.true, sym is ∙ c.in-Ok-false.field-0-test)
 
 pub returns-in-Ok-false-clause-leaves : goal.returns-in-Ok-false-clause-leaves
@@ -65,7 +65,7 @@ loop-slot-preserved g c = record {
       let s = c.args.store.now.now in
       let n = c.loop-slot.slot in
       let p = c.args.p in
-      let is = subst (λ (t : State). c.in-Ok-true.field-0 ≡ is_settled t.tables ((area_in t).slot (place_of p n))) (c.loop-slot.invariant.read.logs told sound).now (c.in-Ok-true.ensures.tells told sound) in
+      let is = subst (λ (t : State). c.in-Ok-true.field-0 ≡ is_settled t.tables ((area_in t).slot (place_at_slot p n))) (c.loop-slot.invariant.read.logs told sound).now (c.in-Ok-true.ensures.tells told sound) in
       one_more s.tables (area_in s) p n (n + 1) refl (sym c.in-Ok-true.field-0-test ∙ is) (c.loop-slot.invariant.settled told sound);
 }
 

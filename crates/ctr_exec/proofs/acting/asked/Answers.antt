@@ -5,7 +5,7 @@ use Rattle.ctr_types.specs.declared.tape.Act.TheVariants as act
 use Rattle.ctr_model.specs.Laws.{is_asked}
 use Rattle.ctr_control.specs.ctr_session_world.World.{SessionsHeld}
 use Rattle.ctr_control.proofs.ctr_session_world.Disks.{disk_done, disk_failed}
-use Rattle.ctr_control.specs.ctr_session_world.Told.{IsTold}
+use Rattle.ctr_control.specs.ctr_session_world.Told.{IsActTold}
 use Rattle.ctr_exec.proofs.Replies.{asked_is, asked_isnt, asks_none}
 use Rattle.ctr_exec.proofs.acting.asked.Goals as goal
 
@@ -24,7 +24,7 @@ returns-in-None-clause-ready g c = (λ state. refl, ap not (c.in-Ok.ensures.ends
 pub returns-in-Some-clause-told : goal.returns-in-Some-clause-told
 returns-in-Some-clause-told g c = λ run opened tells sound next idle.
     let now : SessionsHeld = record { txns = c.ask.new.txns; locks = c.ask.new.locks } in
-    subst (IsTold next now act.Ask) (asked_is c.in-Ok.reply c.in-Some.k (sym c.number_told.ensures ∙ c.in-Some.is)) (c.in-Ok.ensures.told run opened tells sound next idle)
+    subst (IsActTold next now act.Ask) (asked_is c.in-Ok.reply c.in-Some.k (sym c.number_told.ensures ∙ c.in-Some.is)) (c.in-Ok.ensures.told run opened tells sound next idle)
 
 pub returns-in-None-clause-told : goal.returns-in-None-clause-told
 returns-in-None-clause-told g c = λ run opened tells sound next idle.

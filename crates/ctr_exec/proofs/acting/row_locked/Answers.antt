@@ -4,7 +4,7 @@ use Rattle.ctr_types.specs.declared.tape.Reply.TheVariants as reply
 use Rattle.ctr_control.specs.ctr_session_world.World.{SessionsHeld}
 use Rattle.ctr_control.proofs.ctr_session_world.Disks.{disk_done, disk_failed}
 use Rattle.ctr_control.specs.ctr_writing.ctr_looks.Locking.{IsReadyLocked, IsReadyBehind, locked_reply}
-use Rattle.ctr_control.specs.ctr_session_world.Told.{IsTold}
+use Rattle.ctr_control.specs.ctr_session_world.Told.{IsActTold}
 use Rattle.ctr_exec.proofs.Answered.{not_asked}
 use Rattle.ctr_exec.proofs.Points.{row_acts}
 use Rattle.ctr_exec.proofs.acting.row_locked.Goals as goal
@@ -23,7 +23,7 @@ returns-in-Refused-clause-told g c = λ run opened tells sound next stuck idle.
     let why = c.in-Refused.refusal in
     let h : SessionsHeld = record { txns = c.args.txns.now; locks = c.args.locks.now } in
     let now : SessionsHeld = record { txns = c.lock_row.new.txns; locks = c.lock_row.new.locks } in
-    let told = subst (λ l. (told : IsTold next now act.Lock (locked_reply l)) × IsReadyBehind run c.args.s statement told.mind l) c.in-Refused.is (c.in-Ok.ensures.told run opened tells sound next stuck idle) in (
+    let told = subst (λ l. (told : IsActTold next now act.Lock (locked_reply l)) × IsReadyBehind run c.args.s statement told.mind l) c.in-Refused.is (c.in-Ok.ensures.told run opened tells sound next stuck idle) in (
       told.0,
       c.a_session_is_idle_behind_a_reply.ensures.idle run opened a b h c.args.s statement 0 next now act.Lock (reply.Refused why) told.0 (inl idle)
           (not_asked g.D.Disk run opened a b h c.args.s c.requires.may.one statement 0 next now act.Lock (reply.Refused why) told.0 (λ is. absurd (cc is))),
@@ -34,7 +34,7 @@ pub returns-in-Granted-clause-told : goal.returns-in-Granted-clause-told
 returns-in-Granted-clause-told g c = λ run opened tells sound next stuck idle.
     let statement = c.args.statement.now in
     let now : SessionsHeld = record { txns = c.lock_row.new.txns; locks = c.lock_row.new.locks } in
-    let told = subst (λ l. (told : IsTold next now act.Lock (locked_reply l)) × IsReadyBehind run c.args.s statement told.mind l) c.in-Granted.is (c.in-Ok.ensures.told run opened tells sound next stuck idle) in
+    let told = subst (λ l. (told : IsActTold next now act.Lock (locked_reply l)) × IsReadyBehind run c.args.s statement told.mind l) c.in-Granted.is (c.in-Ok.ensures.told run opened tells sound next stuck idle) in
     (told.0, record { may = told.1; so_far = told.0.counts })
 
 pub returns-in-Granted-clause-ready : goal.returns-in-Granted-clause-ready

@@ -12,7 +12,7 @@ use Rattle.ctr_passed.specs.actions_Actions.{Links, LinksOlder, site_after}
 use Rattle.ctr_walk.specs.store_Store.{MayLog, Logs}
 use Rattle.ctr_walk.specs.OneRecord.{LogsOne}
 use Rattle.ctr_walk.proofs.Records.{both_ok}
-use Rattle.ctr_heap.specs.Writing.{front_place, front_record, front_action, IsOfTable}
+use Rattle.ctr_heap.specs.Writing.{front_place, front_record, front_action, HasTableParts}
 use Rattle.ctr_walk.proofs.Limits.{catalog_in_limit}
 use Rattle.ctr_heap.proofs.OneRecord.{front_is, front_may}
 use Rattle.ctr_heap.proofs.writing.link.Goals as goal
@@ -50,7 +50,7 @@ returns-clause-leaves g c = λ told sound table.
     (λ logs whole. ap site_of logs.now ∙ front c.args.bucket c.requires.bucket table whole)
     ((returns-clause-one g c).logs told sound) (c.log_on_page.ensures.whole told sound)
   where
-    front : (bucket : Option ℕ) → IfSome bucket (λ b. b < 8) → IsOfTable (pages_in c.args.store.now.now) c.args.entry → length (page_at (1 + c.args.entry / 16) c.args.store.now.now.pages) ≡ 4096
+    front : (bucket : Option ℕ) → IfSome bucket (λ b. b < 8) → HasTableParts (pages_in c.args.store.now.now) c.args.entry → length (page_at (1 + c.args.entry / 16) c.args.store.now.now.pages) ≡ 4096
         → site_of (step (front_record c.args.x c.args.p c.args.entry bucket) c.args.store.now.now) ≡ site_after c.args.x (front_action c.args.p c.args.entry bucket) (site_of c.args.store.now.now)
     front (Some b) few table whole =
         c.a_logged_record_is_its_action.ensures.leaves c.args.x (Links c.args.p c.args.entry b) c.args.store.now.now (laid_in_entry c.args.entry (front_place (Some b)) (spelled 4 c.args.p)) refl

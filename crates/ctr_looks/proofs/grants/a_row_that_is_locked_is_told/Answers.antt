@@ -21,7 +21,7 @@ use Rattle.ctr_session_world.specs.paged_Moving.{held_as}
 use Rattle.ctr_session_world.specs.txn_Held.{run_of}
 use Rattle.ctr_session_world.specs.kept_Walk.{Mind}
 use Rattle.ctr_session_world.specs.kept_Turns.{carrying, drawn_mind, state_now, telling}
-use Rattle.ctr_session_world.specs.ctr_told.Turning.{facts_idle, TellsOf}
+use Rattle.ctr_session_world.specs.ctr_told.Turning.{facts_idle, TellsTurnOf}
 use Rattle.ctr_session_world.specs.World.{names_in}
 use Rattle.ctr_session_world.proofs.Alike.{put_in_order, table_of_more}
 use Rattle.ctr_session_world.proofs.Numbers.{idle_in}
@@ -52,7 +52,7 @@ returns-clause-told g c = λ run opened a b h s statement next free row of more 
     let title = (area_in a.now).title f in
     let at : find nat_cmp s (run_of mid.txns).sessions ≡ Some seat.session = ap (λ (r : Run). find nat_cmp s r.sessions) (room.run ∙ sym next.world.run_is) ∙ seat.at in
     let come = comes g.D.Disk run opened a b h s statement 0 next act.Lock reply.Granted (row_locks_first state s statement row.key of.key) tt (grants g.D.Disk run opened a b h s statement next free) in
-    let tells : TellsOf g.D.Disk run opened a b w s = record { keeps = next.world.keeps; seat = seat; e = next.e; at_end = next.at_end } in
+    let tells : TellsTurnOf g.D.Disk run opened a b w s = record { keeps = next.world.keeps; seat = seat; e = next.e; at_end = next.at_end } in
     let shown = shows_now g.D.Disk run opened a b h s statement next free row of mid.locks held.locks takes (c.room_shows_the_same.ensures run opened a b h s statement 0 next mid room) c.key_locks_show.ensures.uses c.key_locks_show.ensures.lock in
     let me_is = ap (λ (b : SessionHeld). b.me) (sym free.same) in
     let told = locked_told g.D.Disk run opened a b h s statement next free row of in

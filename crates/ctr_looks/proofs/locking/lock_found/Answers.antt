@@ -32,7 +32,7 @@ use Rattle.ctr_asking.specs.ctr_wishes.Preparing.{IsPrepared}
 use Rattle.ctr_asking.specs.walk_Damage.{ReadsPages}
 use Rattle.ctr_asking.specs.ctr_wishes.ctr_reading.Reading.{as_told}
 use Rattle.ctr_session_world.specs.World.{SessionsHeld}
-use Rattle.ctr_session_world.specs.Told.{IsNextOf, IsTold}
+use Rattle.ctr_session_world.specs.Told.{IsNextOf, IsActTold}
 use Rattle.ctr_looks.specs.Granting.{HasItemIfGranted, CountsOnTable, KeepsSessions, granted_or}
 use Rattle.ctr_looks.specs.declared.locking.Locked.{Locked}
 use Rattle.ctr_looks.specs.declared.locking.Locked.TheVariants.{Refused}
@@ -103,7 +103,7 @@ returns-in-Err-clause-told g c = λ run opened more told sound next free stands 
     let statement = c.args.statement.now in
     let h : SessionsHeld = record { txns = c.args.txns.now; locks = c.args.locks.now } in
     let room : KeepsSessions s h h = record { run = refl; locks = same_held s c.args.locks.now } in
-    unread_so g.O.Origin.first g.D.Disk a m (λ l. (told : IsTold next h act.Lock (locked_reply l)) × IsReadyBehind run s statement told.mind l) c.in-Err.refusal c.unread.result c.unread.ensures.said told sound c.in-Err.ensures.leaves (c.rests.ensures told sound)
+    unread_so g.O.Origin.first g.D.Disk a m (λ l. (told : IsActTold next h act.Lock (locked_reply l)) × IsReadyBehind run s statement told.mind l) c.in-Err.refusal c.unread.result c.unread.ensures.said told sound c.in-Err.ensures.leaves (c.rests.ensures told sound)
     (λ rested. (c.a_look_that_wants_memory_is_told.ensures run opened a m h s statement next act.Lock tt (λ (state : State) (r : ℕ). row_locks_first state r statement c.args.row.now.key of.key) free h room rested, tt))
 
 pub returns-in-Some-why-clause-told : goal.returns-in-Some-why-clause-told
@@ -121,7 +121,7 @@ returns-in-Some-why-clause-told g c = λ run opened more told sound next free st
     let keeps = c.pages_that_are_read_keep_a_world.ensures run opened a m next.mind next.world.keeps rested in
     let later = c.grant_row.ensures.disk.later in
     let then : IsNextOf g.D.Disk run opened m b h s statement 0 = goes g.D.Disk run opened a m b h s statement 0 next rested keeps later in
-    let its = subst (λ r. (told : IsTold then now act.Lock (granted_or r)) × CountsOnTable r row.entry ((area_in m.now).title row.entry) (told.mind.facts s)) c.in-Some-why.is
+    let its = subst (λ r. (told : IsActTold then now act.Lock (granted_or r)) × CountsOnTable r row.entry ((area_in m.now).title row.entry) (told.mind.facts s)) c.in-Some-why.is
     (c.in-Ok-grant_row.ensures.told run opened statement more told sound then (goes_free g.D.Disk run opened a m b h s statement 0 next rested keeps later act.Lock free) (goes_row g.D.Disk run opened a m b h s statement 0 next rested keeps later row of) idle) in
     ((goes_told g.D.Disk run opened a m b h s statement 0 next rested keeps later now act.Lock (reply.Refused c.in-Some-why.refusal) its.0).0, tt)
 
@@ -145,7 +145,7 @@ returns-in-None-clause-told g c = λ run opened more told sound next free stands
     let keeps = c.pages_that_are_read_keep_a_world.ensures run opened a m w next.world.keeps rested in
     let later = c.grant_row.ensures.disk.later in
     let then : IsNextOf g.D.Disk run opened m b h s statement 0 = goes g.D.Disk run opened a m b h s statement 0 next rested keeps later in
-    let its = subst (λ r. (told : IsTold then now act.Lock (granted_or r)) × CountsOnTable r row.entry ((area_in m.now).title row.entry) (told.mind.facts s)) c.in-None.is
+    let its = subst (λ r. (told : IsActTold then now act.Lock (granted_or r)) × CountsOnTable r row.entry ((area_in m.now).title row.entry) (told.mind.facts s)) c.in-None.is
     (c.in-Ok-grant_row.ensures.told run opened statement more told sound then (goes_free g.D.Disk run opened a m b h s statement 0 next rested keeps later act.Lock free) (goes_row g.D.Disk run opened a m b h s statement 0 next rested keeps later row of) idle) in
     let back = goes_told g.D.Disk run opened a m b h s statement 0 next rested keeps later now act.Lock reply.Granted its.0 in
     let counts = subst (λ (k : Mind). IsAmong (HasTable row.entry title) (k.facts s)) (sym back.1) (subst (λ (q : Stored). IsAmong (HasTable row.entry ((area_in q).title row.entry)) (its.0.mind.facts s)) rested.logs.now its.1) in

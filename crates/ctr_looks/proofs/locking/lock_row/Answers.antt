@@ -9,7 +9,7 @@ use Rattle.ctr_asking.specs.declared.asker.Answer.TheVariants as answer
 use Rattle.ctr_looks.specs.declared.taking.RowAt.{RowAt}
 use Rattle.ctr_session_world.specs.World.{SessionsHeld}
 use Rattle.ctr_looks.specs.Asked.{IsAsked}
-use Rattle.ctr_looks.specs.Granting.{IsRowOf}
+use Rattle.ctr_looks.specs.Granting.{WritesRowOf}
 use Rattle.ctr_looks.specs.Locking.{IsReadyBehind, locked_reply}
 use Rattle.ctr_session_world.proofs.Going.{goes, goes_told, if_ok, rests_read}
 use Rattle.ctr_session_world.proofs.Ready.{leaves_behind, ready_read, stands_still}
@@ -85,7 +85,7 @@ returns-in-Some-found-clause-told g c = λ run opened told sound next stuck idle
     let free = asked.0 in
     let stands = asked.1 c.in-Some.name.now named in
     let row : RowAt = record { entry = c.in-Some-found.entry; name = c.in-Some.name; key = c.in-Some-key_written.key } in
-    let of : IsRowOf next row = record { named = named; key = written; inside = stands.inside; title = stands.title; live = stands.live; undropped = stands.undropped; only = stands.only row.key } in
+    let of : WritesRowOf next row = record { named = named; key = written; inside = stands.inside; title = stands.title; live = stands.live; undropped = stands.undropped; only = stands.only row.key } in
     let keeps = c.pages_that_are_read_keep_a_world.ensures run opened a m next.mind next.world.keeps rested in
     let later = c.lock_found.ensures.disk.later in
     if_ok c.lock_found.result

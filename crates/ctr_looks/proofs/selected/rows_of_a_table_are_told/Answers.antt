@@ -16,7 +16,7 @@ use Rattle.ctr_session_world.specs.kept_Walk.{Mind}
 use Rattle.ctr_session_world.specs.kept_Turns.{scene_now, state_now, telling}
 use Rattle.ctr_session_world.proofs.kept_Walking.{keeps_reached}
 use Rattle.ctr_asking.specs.ctr_wishes.ctr_views.Viewing.{Viewer}
-use Rattle.ctr_session_world.specs.ctr_told.Turning.{IsIdle, TellsOf}
+use Rattle.ctr_session_world.specs.ctr_told.Turning.{IdleCountsOn, TellsTurnOf}
 use Rattle.ctr_session_world.proofs.ctr_told.Silent.{same_carried}
 use Rattle.ctr_asking.specs.Asking.{me_held}
 use Rattle.ctr_asking.proofs.Passing.{number_held}
@@ -41,8 +41,8 @@ returns g c = λ run opened a b h s name at next free e stands rows shown more i
     let allowed : Allowed state s act.Read statement said =
     inl (ap (λ l. reply.Rows (record { rows = l })) same ∙ sym (ap (λ o. reply_from state s o act.Read statement) seat.is_t ∙ ap (λ o. refused_or o (reply.Rows (record { rows = rows_read (view state t) statement }))) free.free)) in
     let come = comes g.D.Disk run opened a b h s statement 0 next act.Read said refl tt allowed in
-    let tells : TellsOf g.D.Disk run opened a b w s = record { keeps = next.world.keeps; seat = seat; e = next.e; at_end = next.at_end } in
-    let keeps = c.rows_that_are_read_are_told.ensures run opened a b w s tells rows more (subst (λ (q : SessionHeld). IsIdle q.me more (w.facts s)) (sym free.same) idle) come rested in
+    let tells : TellsTurnOf g.D.Disk run opened a b w s = record { keeps = next.world.keeps; seat = seat; e = next.e; at_end = next.at_end } in
+    let keeps = c.rows_that_are_read_are_told.ensures run opened a b w s tells rows more (subst (λ (q : SessionHeld). IdleCountsOn q.me more (w.facts s)) (sym free.same) idle) come rested in
     let v : Mind = telling next.e act.Read said w w in
     let is_state = told_state g.D.Disk run opened a b h s statement 0 next act.Read said v refl ∙ ap (λ o. next_from state s o act.Read (Some statement) said) seat.is_t in
     let shows = c.key_locks_show.ensures.uses (names_in a.now) s name mid.locks left state t uses (c.room_shows_the_same.ensures run opened a b h s statement 0 next mid room) seat.is_t in

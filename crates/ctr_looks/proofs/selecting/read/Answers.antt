@@ -10,7 +10,7 @@ use Rattle.ctr_model.specs.Tape.{acts_of}
 use Rattle.ctr_asking.specs.declared.asker.Answer.{Answer}
 use Rattle.ctr_asking.specs.declared.asker.Answer.TheVariants as answer
 use Rattle.ctr_session_world.specs.World.{SessionsHeld}
-use Rattle.ctr_session_world.specs.Told.{IsIdleIn, IsNextOf, IsTold}
+use Rattle.ctr_session_world.specs.Told.{IsIdleIn, IsNextOf, IsActTold}
 use Rattle.ctr_looks.specs.Asked.{IsAsked}
 use Rattle.ctr_session_world.proofs.Going.{goes, goes_told, if_ok, rests_read}
 use Rattle.ctr_session_world.proofs.Ready.{leaves_behind, ready_read, stands_still}
@@ -76,7 +76,7 @@ returns-in-Some-clause-told g c = λ run opened told sound next stuck idle.
     let later = c.read_found.ensures.disk.later in
     let select = st.Select c.in-Select.name c.in-Select.at in
     subst (λ (q : Statement). (next : IsNextOf g.D.Disk run opened a b h s q 0) → IsAsked next act.Read (answer.Free (Some c.in-Some.entry)) → IsIdleIn run next.mind s
-    → IfOk c.read_found.result (IsTold next now act.Read)) (sym c.in-Select.is)
+    → IfOk c.read_found.result (IsActTold next now act.Read)) (sym c.in-Select.is)
     (λ next asked idle.
     let keeps = c.pages_that_are_read_keep_a_world.ensures run opened a m next.mind next.world.keeps rested in
     let free = asked.0 in

@@ -10,7 +10,7 @@ use Rattle.ctr_types.specs.declared.value.Rows.{Rows}
 use Rattle.ctr_asking.specs.ctr_wishes.chain_ReadRefusal.{ReadRefusal}
 use Rattle.ctr_asking.specs.ctr_wishes.chain_ReadRefusal.TheVariants as unread
 use Rattle.ctr_record_effects.specs.States.{area_in}
-use Rattle.ctr_asking.specs.ctr_wishes.ctr_reading.Reading.{as_told, AreShown, GivesSeen, sees}
+use Rattle.ctr_asking.specs.ctr_wishes.ctr_reading.Reading.{as_told, AreShown, GivesSeen, sight_sees}
 use Rattle.ctr_disk.specs.Image.{Image}
 use Rattle.ctr_disk.specs.declared.disk.Disk.{Ghosts}
 use Rattle.ctr_store.specs.Store.{View}
@@ -27,8 +27,8 @@ returns-in-Ok-clause-shows g c = λ told sound area.
     let s = c.args.store.now.now in
     let key = c.key_asked-key.result in
     let wide : FitsSigned w64 key = record { sfits = c.key_asked-key.type_inv } in
-    let given = subst (λ (k : ℤ). GivesSeen (sees s.tables c.args.sight.now) (area_in s) c.args.entry k (Ok c.in-Ok.row)) (to_z-of_z w64 key wide ∙ c.key_asked-key.ensures) (c.in-Ok.ensures.shows told sound area) in
-    if_ok c.one_row.result (λ rows its. subst (λ o. AreShown (sees s.tables c.args.sight.now) (area_in s) c.args.entry (option_map (λ (k : KeyIs). k.key) o) rows.rows) (sym c.in-Some.is)
+    let given = subst (λ (k : ℤ). GivesSeen (sight_sees s.tables c.args.sight.now) (area_in s) c.args.entry k (Ok c.in-Ok.row)) (to_z-of_z w64 key wide ∙ c.key_asked-key.ensures) (c.in-Ok.ensures.shows told sound area) in
+    if_ok c.one_row.result (λ rows its. subst (λ o. AreShown (sight_sees s.tables c.args.sight.now) (area_in s) c.args.entry (option_map (λ (k : KeyIs). k.key) o) rows.rows) (sym c.in-Some.is)
     (given.0, given.1, its ∙ ap option_to_list given.2)) c.one_row.ensures.gives
 
 -- ---- what is left of the sessions

@@ -6,7 +6,7 @@ use Rattle.ctr_types.specs.declared.tape.Reply.TheVariants as reply
 use Rattle.ctr_redo.specs.States.{State as Stored}
 use Rattle.ctr_record_effects.specs.States.{area_in}
 use Rattle.ctr_session_world.specs.kept_Walk.{Mind}
-use Rattle.ctr_session_world.specs.Told.{IsNextOf, IsTold}
+use Rattle.ctr_session_world.specs.Told.{IsNextOf, IsActTold}
 use Rattle.ctr_session_world.specs.World.{SessionsHeld}
 use Rattle.ctr_session_world.proofs.Going.{goes, goes_told, rests_read}
 use Rattle.ctr_session_world.proofs.Ready.{ready_behind, ready_read, stands_still}
@@ -102,7 +102,7 @@ returns-in-Some-why-clause-told g c = λ run opened told sound next stuck idle.
     let keeps = c.pages_that_are_read_keep_a_world.ensures run opened a m next.mind next.world.keeps rested in
     let later = c.grant_name.ensures.disk.later in
     let then : IsNextOf g.D.Disk run opened m b h s statement 0 = goes g.D.Disk run opened a m b h s statement 0 next rested keeps later in
-    let its = subst (λ r. (told : IsTold then now act.Lock (granted_or r)) × CountsOnFound r None (area_in m.now).title (told.mind.facts s)) c.in-Some-why.is
+    let its = subst (λ r. (told : IsActTold then now act.Lock (granted_or r)) × CountsOnFound r None (area_in m.now).title (told.mind.facts s)) c.in-Some-why.is
     (c.in-Ok-grant_name.ensures.told run opened statement (idle_free g.D.Disk run opened a b h s statement 0 next act.Lock free idle).0 told sound then (goes_free g.D.Disk run opened a m b h s statement 0 next rested keeps later act.Lock free) first
     (record { named = named; keyless = schema_has_no_key statement c.requires.schema; schema = c.requires.schema }) None tt (idle_free g.D.Disk run opened a b h s statement 0 next act.Lock free idle).1) in
     ((goes_told g.D.Disk run opened a m b h s statement 0 next rested keeps later now act.Lock (reply.Refused c.in-Some-why.refusal) its.0).0, tt)
@@ -129,7 +129,7 @@ returns-in-None-why-clause-told g c = λ run opened told sound next stuck idle.
     let keeps = c.pages_that_are_read_keep_a_world.ensures run opened a m next.mind next.world.keeps rested in
     let later = c.grant_name.ensures.disk.later in
     let then : IsNextOf g.D.Disk run opened m b h s statement 0 = goes g.D.Disk run opened a m b h s statement 0 next rested keeps later in
-    let its = subst (λ r. (told : IsTold then now act.Lock (granted_or r)) × CountsOnFound r (found_of write) (area_in m.now).title (told.mind.facts s)) c.in-None-why.is
+    let its = subst (λ r. (told : IsActTold then now act.Lock (granted_or r)) × CountsOnFound r (found_of write) (area_in m.now).title (told.mind.facts s)) c.in-None-why.is
     (c.in-Ok-grant_name.ensures.told run opened statement (idle_free g.D.Disk run opened a b h s statement 0 next act.Lock free idle).0 told sound then (goes_free g.D.Disk run opened a m b h s statement 0 next rested keeps later act.Lock free) first
     (record { named = named; keyless = keyless; schema = c.requires.schema }) (found_of write) (goes_found g.D.Disk run opened a m b h s statement 0 next rested keeps later act.Lock free name (found_of write) stands)
     (idle_free g.D.Disk run opened a b h s statement 0 next act.Lock free idle).1) in

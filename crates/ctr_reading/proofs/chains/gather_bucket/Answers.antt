@@ -7,7 +7,7 @@ use Rattle.ctr_walk.specs.record_effects_States.{area_in}
 use Rattle.ctr_walk.specs.Damage.{damage_told}
 use Rattle.ctr_walk.specs.Tables.{IsFirstPage, first_of_chain}
 use Rattle.ctr_walk.proofs.Damages.{reads_err}
-use Rattle.ctr_reading.specs.Reading.{as_told, sees, IsDiskOrMemory}
+use Rattle.ctr_reading.specs.Reading.{as_told, sight_sees, IsDiskOrMemory}
 use Rattle.ctr_reading.specs.Gathering.{gathered, Gathers, IsBucket}
 use Rattle.ctr_reading.proofs.Gathers.{no_places}
 use Rattle.ctr_reading.proofs.Places.{first_undamaged}
@@ -26,7 +26,7 @@ pub returns-in-None-clause-gathers : goal.returns-in-None-clause-gathers
 returns-in-None-clause-gathers g c = λ told sound.
     let s = c.args.store.now.now in
     let first = first_of_chain (area_in s) (Rows c.args.entry c.args.bucket) in
-    sym (no_places (sees s.tables c.args.sight.now) (area_in s) first c.args.rows.now (subst (IsFirstPage first) c.in-None.is (c.in-Ok.ensures.ends told sound).1))
+    sym (no_places (sight_sees s.tables c.args.sight.now) (area_in s) first c.args.rows.now (subst (IsFirstPage first) c.in-None.is (c.in-Ok.ensures.ends told sound).1))
 
 pub returns-in-None-clause-leaves : goal.returns-in-None-clause-leaves
 returns-in-None-clause-leaves g c = told_ok g.O.Origin.first g.D.Disk c.in-Ok.found _ c.args.store.now c.first_page.new.store c.in-Ok.ensures.leaves
@@ -42,8 +42,8 @@ returns-in-Some-clause-gathers g c = λ told sound.
     let s = c.args.store.now.now in
     let chain_first = first_of_chain (area_in s) (Rows c.args.entry c.args.bucket) in
     let is = (subst (IsFirstPage chain_first) c.in-Some.is (c.in-Ok.ensures.ends told sound).1).1 in
-    subst (λ p. IfOk (as_told c.gather_from.result) (Gathers (gathered (sees s.tables c.args.sight.now) (area_in s) (places_from (area_in s) p) c.args.rows.now) c.gather_from.new.rows)) is
-    (subst (λ (t : State). IfOk (as_told c.gather_from.result) (Gathers (gathered (sees t.tables c.args.sight.now) (area_in t) (places_from (area_in t) c.in-Some.first) c.args.rows.now) c.gather_from.new.rows)) (c.in-Ok.ensures.leaves.logs told sound).now (c.gather_from.ensures.gathers told sound))
+    subst (λ p. IfOk (as_told c.gather_from.result) (Gathers (gathered (sight_sees s.tables c.args.sight.now) (area_in s) (places_from (area_in s) p) c.args.rows.now) c.gather_from.new.rows)) is
+    (subst (λ (t : State). IfOk (as_told c.gather_from.result) (Gathers (gathered (sight_sees t.tables c.args.sight.now) (area_in t) (places_from (area_in t) c.in-Some.first) c.args.rows.now) c.gather_from.new.rows)) (c.in-Ok.ensures.leaves.logs told sound).now (c.gather_from.ensures.gathers told sound))
 
 pub returns-in-Some-clause-refused : goal.returns-in-Some-clause-refused
 returns-in-Some-clause-refused g c = λ told sound database.

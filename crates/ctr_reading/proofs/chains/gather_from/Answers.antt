@@ -5,7 +5,7 @@ use Rattle.ctr_area.specs.Chains.{pages_bound, pages_from, places_on}
 use Rattle.ctr_walk.specs.record_effects_States.{area_in}
 use Rattle.ctr_views.specs.chain_ReadRefusal.{ReadRefusal}
 use Rattle.ctr_walk.proofs.PagesRead.{still_goes, same_now, was_read}
-use Rattle.ctr_reading.specs.Reading.{as_told, sees, IsDiskOrMemory}
+use Rattle.ctr_reading.specs.Reading.{as_told, sight_sees, IsDiskOrMemory}
 use Rattle.ctr_reading.specs.Gathering.{gathered, Gathers, IsBucketPage}
 use Rattle.ctr_reading.proofs.Told.{same_counted, reads_further, told_err, told_ok, ok_so}
 use Rattle.ctr_reading.proofs.Walked.{IsWalked, few_steps, walk_begins, walk_ends, is_on, too_many, walk_on, walk_refused, bucket_page, bucket_few}
@@ -17,7 +17,7 @@ loop-at-init g c = (
   c.requires.counted,
   λ told sound.
       let s = c.args.store.now.now in
-      walk_begins (sees s.tables c.args.sight.now) (area_in s) c.args.first c.saturating_sub-most.result c.args.rows.now
+      walk_begins (sight_sees s.tables c.args.sight.now) (area_in s) c.args.first c.saturating_sub-most.result c.args.rows.now
       (subst (λ m. m < _) (sym (c.saturating_sub-most.ensures ∙ ap (λ n. n - 3) c.counted.ensures)) (few_steps s.counted c.counts_pages.ensures.1)),
 )
 
@@ -33,7 +33,7 @@ returns-then-left-eq0-clause-refused g c = λ told sound bucket.
     let first = c.args.first in
     let at = c.loop-at.at in
     let most = c.saturating_sub-most.result in
-    let test = sees s.tables c.args.sight.now in
+    let test = sight_sees s.tables c.args.sight.now in
     let walked = c.loop-at.invariant.2 told sound in
     let on = is_on test (area_in s) first most c.args.rows.now at c.loop-at.left c.loop-at.rows walked c.loop-at-test.true in
     absurd (too_many test (area_in s) first most c.args.rows.now at c.loop-at.left c.loop-at.rows walked c.loop-at-test.true c.if-left-eq0.true
@@ -56,8 +56,8 @@ returns-in-Err-clause-gathers g c = λ told sound.
     let at = c.loop-at.at in
     let same = same_now g.O.Origin.first g.D.Disk _ c.args.store.now c.loop-at.store c.loop-at.invariant.0 told sound in
     let r : Result ℕ ReadRefusal = Err c.in-Err.refusal in
-    let here = subst (λ (t : State). IfOk (as_told r) (Gathers (gathered (sees t.tables c.args.sight.now) (area_in t) (places_on at 0 ((area_in t).room at)) c.loop-at.rows) c.gather_page.new.rows)) same (c.in-Err.ensures.gathers told sound) in
-    walk_refused (sees s.tables c.args.sight.now) (area_in s) c.args.first c.saturating_sub-most.result c.args.rows.now at c.loop-at.left c.loop-at.rows (c.loop-at.invariant.2 told sound) c.loop-at-test.true
+    let here = subst (λ (t : State). IfOk (as_told r) (Gathers (gathered (sight_sees t.tables c.args.sight.now) (area_in t) (places_on at 0 ((area_in t).room at)) c.loop-at.rows) c.gather_page.new.rows)) same (c.in-Err.ensures.gathers told sound) in
+    walk_refused (sight_sees s.tables c.args.sight.now) (area_in s) c.args.first c.saturating_sub-most.result c.args.rows.now at c.loop-at.left c.loop-at.rows (c.loop-at.invariant.2 told sound) c.loop-at-test.true
     ℕ ⊤ c.in-Err.refusal c.gather_page.new.rows c.gather_page.new.rows here
 
 pub returns-in-Err-clause-refused : goal.returns-in-Err-clause-refused
@@ -65,7 +65,7 @@ returns-in-Err-clause-refused g c = λ told sound bucket.
     let s = c.args.store.now.now in
     let at = c.loop-at.at in
     let same = same_now g.O.Origin.first g.D.Disk _ c.args.store.now c.loop-at.store c.loop-at.invariant.0 told sound in
-    let on = is_on (sees s.tables c.args.sight.now) (area_in s) c.args.first c.saturating_sub-most.result c.args.rows.now at c.loop-at.left c.loop-at.rows (c.loop-at.invariant.2 told sound) c.loop-at-test.true in
+    let on = is_on (sight_sees s.tables c.args.sight.now) (area_in s) c.args.first c.saturating_sub-most.result c.args.rows.now at c.loop-at.left c.loop-at.rows (c.loop-at.invariant.2 told sound) c.loop-at-test.true in
     subst (λ (t : State). IsBucketPage c.args.chain at t → IsDiskOrMemory c.in-Err.refusal) same (c.in-Err.ensures.refused told sound) (bucket_page c.args.chain c.args.first at s bucket on)
 
 pub returns-in-Err-clause-leaves : goal.returns-in-Err-clause-leaves
@@ -82,10 +82,10 @@ loop-at-preserved g c =
       λ told sound.
           let s = c.args.store.now.now in
           let at = c.loop-at.at in
-          let test = sees s.tables c.args.sight.now in
+          let test = sight_sees s.tables c.args.sight.now in
           let same = same_now g.O.Origin.first g.D.Disk _ c.args.store.now c.loop-at.store c.loop-at.invariant.0 told sound in
           let next_is = subst (λ (t : State). c.in-Ok.next ≡ ((area_in t).header at).next) same (c.in-Ok.ensures.goes told sound) in
-          let rows_are = subst (λ (t : State). c.gather_page.new.rows ≡ gathered (sees t.tables c.args.sight.now) (area_in t) (places_on at 0 ((area_in t).room at)) c.loop-at.rows) same (c.in-Ok.ensures.gathers told sound) in
+          let rows_are = subst (λ (t : State). c.gather_page.new.rows ≡ gathered (sight_sees t.tables c.args.sight.now) (area_in t) (places_on at 0 ((area_in t).room at)) c.loop-at.rows) same (c.in-Ok.ensures.gathers told sound) in
           subst (IsWalked test (area_in s) c.args.first c.saturating_sub-most.result c.in-Ok.next (c.loop-at.left - 1) c.args.rows.now) (sym rows_are)
           (walk_on test (area_in s) c.args.first c.saturating_sub-most.result c.args.rows.now at c.loop-at.left c.loop-at.rows (c.loop-at.invariant.2 told sound) c.loop-at-test.true (c.loop-at.left - 1) c.in-Ok.next goes next_is),
     )
@@ -93,7 +93,7 @@ loop-at-preserved g c =
 pub returns-clause-gathers : goal.returns-clause-gathers
 returns-clause-gathers g c = λ told sound.
     let s = c.args.store.now.now in
-    walk_ends (sees s.tables c.args.sight.now) (area_in s) c.args.first c.saturating_sub-most.result c.args.rows.now c.loop-at.at c.loop-at.left c.loop-at.rows (c.loop-at.invariant.2 told sound) c.loop-at-test.false
+    walk_ends (sight_sees s.tables c.args.sight.now) (area_in s) c.args.first c.saturating_sub-most.result c.args.rows.now c.loop-at.at c.loop-at.left c.loop-at.rows (c.loop-at.invariant.2 told sound) c.loop-at-test.false
 
 pub returns-clause-leaves : goal.returns-clause-leaves
 returns-clause-leaves g c =

@@ -7,7 +7,7 @@ use Rattle.ctr_area.specs.Chains.{places_on}
 use Rattle.ctr_walk.specs.record_effects_States.{pages_in, area_in}
 use Rattle.ctr_walk.proofs.Damages.{reads_err}
 use Rattle.ctr_views.specs.chain_ReadRefusal.{ReadRefusal}
-use Rattle.ctr_reading.specs.Reading.{as_told, sees, IsDiskOrMemory}
+use Rattle.ctr_reading.specs.Reading.{as_told, sight_sees, IsDiskOrMemory}
 use Rattle.ctr_reading.specs.Gathering.{gathered, ArePageSlots, Gathers, IsBucketPage}
 use Rattle.ctr_reading.proofs.Gathers.{refused_further}
 use Rattle.ctr_reading.proofs.Places.{behind_catalog, page_places}
@@ -35,8 +35,8 @@ returns-in-Err-gather_slots-clause-gathers g c = λ told sound.
     let one = (c.in-Ok.ensures.leaves.logs told sound).now in
     let two = (c.in-Ok-slots_on.ensures.leaves.logs told sound).now ∙ one in
     let are = subst (λ (t : State). ArePageSlots t slots) one (c.in-Ok-slots_on.ensures.are told sound) in
-    let here = subst (λ (t : State). ArePageSlots t slots → IfOk (as_told r) (Gathers (gathered (sees t.tables c.args.sight.now) (area_in t) (places_on slots.page 0 slots.count) rows) c.gather_slots.new.rows)) two (c.in-Err-gather_slots.ensures.gathers told sound) are in
-    let test = sees s.tables c.args.sight.now in
+    let here = subst (λ (t : State). ArePageSlots t slots → IfOk (as_told r) (Gathers (gathered (sight_sees t.tables c.args.sight.now) (area_in t) (places_on slots.page 0 slots.count) rows) c.gather_slots.new.rows)) two (c.in-Err-gather_slots.ensures.gathers told sound) are in
+    let test = sight_sees s.tables c.args.sight.now in
     refused_further test (area_in s) ⊤ ℕ [] (gathered test (area_in s) (places_on slots.page 0 slots.count) rows) (gathered test (area_in s) (places_on p 0 ((area_in s).room p)) rows) c.gather_slots.new.rows c.gather_slots.new.rows c.in-Err-gather_slots.refusal
     (ap (λ places. gathered test (area_in s) places rows) (page_places s slots p are c.in-Ok-slots_on.ensures.fits.1)) here
 
@@ -65,8 +65,8 @@ returns-in-Ok-gather_slots-clause-gathers g c = λ told sound.
     let one = (c.in-Ok.ensures.leaves.logs told sound).now in
     let two = (c.in-Ok-slots_on.ensures.leaves.logs told sound).now ∙ one in
     let are = subst (λ (t : State). ArePageSlots t slots) one (c.in-Ok-slots_on.ensures.are told sound) in
-    subst (λ (t : State). ArePageSlots t slots → c.gather_slots.new.rows ≡ gathered (sees t.tables c.args.sight.now) (area_in t) (places_on slots.page 0 slots.count) rows) two (c.in-Ok-gather_slots.ensures.gathers told sound) are
-    ∙ ap (λ places. gathered (sees s.tables c.args.sight.now) (area_in s) places rows) (page_places s slots p are c.in-Ok-slots_on.ensures.fits.1)
+    subst (λ (t : State). ArePageSlots t slots → c.gather_slots.new.rows ≡ gathered (sight_sees t.tables c.args.sight.now) (area_in t) (places_on slots.page 0 slots.count) rows) two (c.in-Ok-gather_slots.ensures.gathers told sound) are
+    ∙ ap (λ places. gathered (sight_sees s.tables c.args.sight.now) (area_in s) places rows) (page_places s slots p are c.in-Ok-slots_on.ensures.fits.1)
 
 pub returns-in-Ok-gather_slots-clause-goes : goal.returns-in-Ok-gather_slots-clause-goes
 returns-in-Ok-gather_slots-clause-goes g c = λ told sound.

@@ -11,7 +11,7 @@ use Rattle.ctr_undamaged.specs.chain_Seeking.{sought_at}
 use Rattle.ctr_views.specs.chain_Visible.{as_read, EndsReading, visible_row}
 use Rattle.ctr_views.specs.chain_ReadRefusal.{ReadRefusal}
 use Rattle.std.specs.declared.result.Result.{Result}
-use Rattle.ctr_reading.specs.Reading.{as_told, sees}
+use Rattle.ctr_reading.specs.Reading.{as_told, sight_sees}
 use Rattle.ctr_reading.proofs.Told.{undamaged, same_told, disk_or_memory, reads_behind, told_err, told_ok}
 use Rattle.ctr_reading.proofs.Gathers.{put_some}
 use Rattle.ctr_reading.proofs.Places.{gathers_none, gathers_refused, gathers_row}
@@ -25,17 +25,17 @@ returns-in-Err-visible-clause-refused g c = λ e told sound database in_ table.
     let s = c.args.store.now.now in
     let place = c.args.place in
     let r : Result (Option Row) ReadRefusal = Err c.in-Err-visible.refusal in
-    let ends = subst (λ (t : State). EndsTold (damage_told g.D.Disk c.visible.new.store) (EndsReading (sought_at (sees t.tables c.args.sight.now) t.counted (pages_in t) place)) (as_read r)) (c.in-Ok.ensures.leaves.logs told sound).now (c.in-Err-visible.ensures.ends told sound) in
+    let ends = subst (λ (t : State). EndsTold (damage_told g.D.Disk c.visible.new.store) (EndsReading (sought_at (sight_sees t.tables c.args.sight.now) t.counted (pages_in t) place)) (as_read r)) (c.in-Ok.ensures.leaves.logs told sound).now (c.in-Err-visible.ensures.ends told sound) in
     disk_or_memory r (subst (λ x. IfErr x (λ e. e ≡ Fault)) (same_told r)
-    (undamaged (damage_told g.D.Disk c.visible.new.store) (EndsReading (sought_at (sees s.tables c.args.sight.now) s.counted (pages_in s) place)) (c.a_row_is_read_without_damage.ensures.row s (sees s.tables c.args.sight.now) e place database in_) (as_read r) ends))
+    (undamaged (damage_told g.D.Disk c.visible.new.store) (EndsReading (sought_at (sight_sees s.tables c.args.sight.now) s.counted (pages_in s) place)) (c.a_row_is_read_without_damage.ensures.row s (sight_sees s.tables c.args.sight.now) e place database in_) (as_read r) ends))
 
 pub returns-in-Err-visible-clause-gathers : goal.returns-in-Err-visible-clause-gathers
 returns-in-Err-visible-clause-gathers g c = λ told sound table.
     let s = c.args.store.now.now in
     let place = c.args.place in
     let r : Result (Option Row) ReadRefusal = Err c.in-Err-visible.refusal in
-    let gives = subst (λ (t : State). IfOk (as_read r) (GivesRow (visible_row (sees t.tables c.args.sight.now) (area_in t) place))) (c.in-Ok.ensures.leaves.logs told sound).now (c.in-Err-visible.ensures.shows told sound) in
-    gathers_refused (sees s.tables c.args.sight.now) (area_in s) place c.args.rows.now c.in-Some.key (sym (c.in-Ok.ensures.tells told sound table) ∙ c.in-Some.is) ⊤ c.in-Err-visible.refusal _ gives
+    let gives = subst (λ (t : State). IfOk (as_read r) (GivesRow (visible_row (sight_sees t.tables c.args.sight.now) (area_in t) place))) (c.in-Ok.ensures.leaves.logs told sound).now (c.in-Err-visible.ensures.shows told sound) in
+    gathers_refused (sight_sees s.tables c.args.sight.now) (area_in s) place c.args.rows.now c.in-Some.key (sym (c.in-Ok.ensures.tells told sound table) ∙ c.in-Some.is) ⊤ c.in-Err-visible.refusal _ gives
 
 pub returns-in-Err-visible-clause-leaves : goal.returns-in-Err-visible-clause-leaves
 returns-in-Err-visible-clause-leaves g c =
@@ -48,8 +48,8 @@ pub returns-in-None-clause-gathers : goal.returns-in-None-clause-gathers
 returns-in-None-clause-gathers g c = λ told sound table.
     let s = c.args.store.now.now in
     let place = c.args.place in
-    let shown = subst (λ (t : State). c.in-Ok-visible.row ≡ visible_row (sees t.tables c.args.sight.now) (area_in t) place) (c.in-Ok.ensures.leaves.logs told sound).now (c.in-Ok-visible.ensures.shows told sound) in
-    gathers_none (sees s.tables c.args.sight.now) (area_in s) place c.args.rows.now c.in-Some.key (sym (c.in-Ok.ensures.tells told sound table) ∙ c.in-Some.is) (sym shown ∙ c.in-None.is)
+    let shown = subst (λ (t : State). c.in-Ok-visible.row ≡ visible_row (sight_sees t.tables c.args.sight.now) (area_in t) place) (c.in-Ok.ensures.leaves.logs told sound).now (c.in-Ok-visible.ensures.shows told sound) in
+    gathers_none (sight_sees s.tables c.args.sight.now) (area_in s) place c.args.rows.now c.in-Some.key (sym (c.in-Ok.ensures.tells told sound table) ∙ c.in-Some.is) (sym shown ∙ c.in-None.is)
 
 pub returns-in-None-clause-leaves : goal.returns-in-None-clause-leaves
 returns-in-None-clause-leaves g c =
@@ -60,9 +60,9 @@ pub returns-in-Err-put-clause-gathers : goal.returns-in-Err-put-clause-gathers
 returns-in-Err-put-clause-gathers g c = λ told sound table none.
     let s = c.args.store.now.now in
     let place = c.args.place in
-    let shown = subst (λ (t : State). c.in-Ok-visible.row ≡ visible_row (sees t.tables c.args.sight.now) (area_in t) place) (c.in-Ok.ensures.leaves.logs told sound).now (c.in-Ok-visible.ensures.shows told sound) in
+    let shown = subst (λ (t : State). c.in-Ok-visible.row ≡ visible_row (sight_sees t.tables c.args.sight.now) (area_in t) place) (c.in-Ok.ensures.leaves.logs told sound).now (c.in-Ok-visible.ensures.shows told sound) in
     let key_is = sym (c.in-Ok.ensures.tells told sound table) ∙ c.in-Some.is in
-    put_some c.in-Some.key c.in-Some-row.row c.args.rows.now (gathers_row (sees s.tables c.args.sight.now) (area_in s) place c.args.rows.now c.in-Some.key key_is c.in-Some-row.row c.in-Some.key refl (sym shown ∙ c.in-Some-row.is) ∙ none)
+    put_some c.in-Some.key c.in-Some-row.row c.args.rows.now (gathers_row (sight_sees s.tables c.args.sight.now) (area_in s) place c.args.rows.now c.in-Some.key key_is c.in-Some-row.row c.in-Some.key refl (sym shown ∙ c.in-Some-row.is) ∙ none)
 
 pub returns-in-Err-put-clause-leaves : goal.returns-in-Err-put-clause-leaves
 returns-in-Err-put-clause-leaves g c =
@@ -73,9 +73,9 @@ pub returns-in-Ok-put-clause-gathers : goal.returns-in-Ok-put-clause-gathers
 returns-in-Ok-put-clause-gathers g c = λ told sound table.
     let s = c.args.store.now.now in
     let place = c.args.place in
-    let shown = subst (λ (t : State). c.in-Ok-visible.row ≡ visible_row (sees t.tables c.args.sight.now) (area_in t) place) (c.in-Ok.ensures.leaves.logs told sound).now (c.in-Ok-visible.ensures.shows told sound) in
+    let shown = subst (λ (t : State). c.in-Ok-visible.row ≡ visible_row (sight_sees t.tables c.args.sight.now) (area_in t) place) (c.in-Ok.ensures.leaves.logs told sound).now (c.in-Ok-visible.ensures.shows told sound) in
     let key_is = sym (c.in-Ok.ensures.tells told sound table) ∙ c.in-Some.is in
-    c.in-Ok-put.ensures ∙ gathers_row (sees s.tables c.args.sight.now) (area_in s) place c.args.rows.now c.in-Some.key key_is c.in-Some-row.row c.in-Some.key refl (sym shown ∙ c.in-Some-row.is)
+    c.in-Ok-put.ensures ∙ gathers_row (sight_sees s.tables c.args.sight.now) (area_in s) place c.args.rows.now c.in-Some.key key_is c.in-Some-row.row c.in-Some.key refl (sym shown ∙ c.in-Some-row.is)
 
 pub returns-in-Ok-put-clause-leaves : goal.returns-in-Ok-put-clause-leaves
 returns-in-Ok-put-clause-leaves g c =

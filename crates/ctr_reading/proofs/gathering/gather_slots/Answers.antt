@@ -10,7 +10,7 @@ use Rattle.ctr_walk.specs.record_effects_Standing.{IsDatabaseState}
 use Rattle.ctr_walk.proofs.PagesRead.{still_goes, same_now}
 use Rattle.ctr_views.specs.pvs_Table.{TableSaid}
 use Rattle.ctr_views.specs.chain_ReadRefusal.{ReadRefusal}
-use Rattle.ctr_reading.specs.Reading.{as_told, sees, IsDiskOrMemory}
+use Rattle.ctr_reading.specs.Reading.{as_told, sight_sees, IsDiskOrMemory}
 use Rattle.ctr_reading.specs.Gathering.{gathered_at, gathered, Gathers}
 use Rattle.ctr_reading.proofs.Gathers.{refused_further, slots_step, slots_end}
 use Rattle.ctr_reading.proofs.Places.{page_slot}
@@ -39,10 +39,10 @@ returns-in-Err-clause-gathers g c = λ told sound slots.
     let p = c.args.slots.now.page in
     let count = c.args.slots.now.count in
     let place : Place = record { page = p; slot = n } in
-    let test = sees s.tables c.args.sight.now in
+    let test = sight_sees s.tables c.args.sight.now in
     let same = same_now g.O.Origin.first g.D.Disk _ c.args.store.now c.loop-slot.store c.loop-slot.invariant.0 told sound in
     let r : Result ⊤ ReadRefusal = Err c.in-Err.refusal in
-    let here = subst (λ (t : State). TableSaid 1 t.counted (pages_in t) p (Ok c.args.slots.now.table) → IfOk (as_told r) (Gathers (gathered_at (sees t.tables c.args.sight.now) (area_in t) place c.loop-slot.rows) c.gather.new.rows)) same (c.in-Err.ensures.gathers told sound) slots.table in
+    let here = subst (λ (t : State). TableSaid 1 t.counted (pages_in t) p (Ok c.args.slots.now.table) → IfOk (as_told r) (Gathers (gathered_at (sight_sees t.tables c.args.sight.now) (area_in t) place c.loop-slot.rows) c.gather.new.rows)) same (c.in-Err.ensures.gathers told sound) slots.table in
     refused_further test (area_in s) ⊤ ⊤ (places_on p (n + 1) (count - (n + 1))) (gathered_at test (area_in s) place c.loop-slot.rows) (gathered test (area_in s) (places_on p 0 count) c.args.rows.now) c.gather.new.rows c.gather.new.rows c.in-Err.refusal
     (sym (slots_step test (area_in s) p n count c.loop-slot.rows c.loop-slot-test.true) ∙ c.loop-slot.invariant.1 told sound slots) here
 
@@ -60,16 +60,16 @@ loop-slot-preserved g c = (
       let p = c.args.slots.now.page in
       let count = c.args.slots.now.count in
       let place : Place = record { page = p; slot = n } in
-      let test = sees s.tables c.args.sight.now in
+      let test = sight_sees s.tables c.args.sight.now in
       let same = same_now g.O.Origin.first g.D.Disk _ c.args.store.now c.loop-slot.store c.loop-slot.invariant.0 told sound in
-      let here = subst (λ (t : State). TableSaid 1 t.counted (pages_in t) p (Ok c.args.slots.now.table) → c.gather.new.rows ≡ gathered_at (sees t.tables c.args.sight.now) (area_in t) place c.loop-slot.rows) same (c.in-Ok.ensures.gathers told sound) slots.table in
+      let here = subst (λ (t : State). TableSaid 1 t.counted (pages_in t) p (Ok c.args.slots.now.table) → c.gather.new.rows ≡ gathered_at (sight_sees t.tables c.args.sight.now) (area_in t) place c.loop-slot.rows) same (c.in-Ok.ensures.gathers told sound) slots.table in
       ap (gathered test (area_in s) (places_on p (n + 1) (count - (n + 1)))) here ∙ sym (slots_step test (area_in s) p n count c.loop-slot.rows c.loop-slot-test.true) ∙ c.loop-slot.invariant.1 told sound slots,
 )
 
 pub returns-clause-gathers : goal.returns-clause-gathers
 returns-clause-gathers g c = λ told sound slots.
     let s = c.args.store.now.now in
-    sym (slots_end (sees s.tables c.args.sight.now) (area_in s) c.args.slots.now.page c.loop-slot.slot c.args.slots.now.count c.loop-slot.rows c.loop-slot-test.false) ∙ c.loop-slot.invariant.1 told sound slots
+    sym (slots_end (sight_sees s.tables c.args.sight.now) (area_in s) c.args.slots.now.page c.loop-slot.slot c.args.slots.now.count c.loop-slot.rows c.loop-slot-test.false) ∙ c.loop-slot.invariant.1 told sound slots
 
 pub returns-clause-leaves : goal.returns-clause-leaves
 returns-clause-leaves g c = λ a read. read_between g.O.Origin.first g.D.Disk _ tt (Ok tt) a c.args.store.now c.loop-slot.store read c.loop-slot.invariant.0

@@ -1,6 +1,6 @@
 use Rattle.std.proofs.Common.{subst}
 use Rattle.std.proofs.Math.Logic.{∥∥₁_map}
-use Rattle.ctr_workers.specs.Leads.{Leads}
+use Rattle.ctr_workers.specs.Leads.{LeadsByTurns}
 use Rattle.ctr_workers.specs.Workers.{IsActor}
 use Rattle.ctr_run.specs.Beside.{StepsTo}
 use Rattle.ctr_run.proofs.running.run_opened_on_threads.Goals as goal
@@ -19,6 +19,6 @@ returns-clause-turns g c = λ first ran. ∥∥₁_map c.run_workers-world.ensur
   begun = c.in-Ok.world;
   last = c.run_workers-world.result;
   unbegun = c.in-Ok.ensures.begins;
-  turns = subst (λ w. Leads IsActor (StepsTo g.D.Disk) w c.run_workers-world.result) (c.run_first.ensures first) turns;
+  turns = subst (λ w. LeadsByTurns IsActor (StepsTo g.D.Disk) w c.run_workers-world.result) (c.run_first.ensures first) turns;
   finishes = c.finished.ensures.turns;
 })

@@ -4,7 +4,7 @@ use Rattle.ctr_base.specs.ctr_home.Writing.{IsOldOrNewValue}
 use Rattle.ctr_disk.proofs.Moments.{weaker, joined, on_ok, settled_by}
 use Rattle.ctr_base.specs.log_Fresh.{SameRoot}
 use Rattle.ctr_base.specs.redo_Images.{new_root, IsNewDatabase}
-use Rattle.ctr_base.specs.Extent.{KeepsPages}
+use Rattle.ctr_base.specs.Extent.{KeepsPageBytes}
 use Rattle.ctr_store.specs.Creating.{IsNoneOrNew}
 use Rattle.ctr_store.proofs.CreateLaws.{none_logs, none_cleared, none_one, new_made, new_step}
 use Rattle.ctr_store.proofs.creating.lay.Goals as goal
@@ -21,7 +21,7 @@ returns-clause-any_moment g c settled =
     let ready = c.in_ok-make_logs.ensures.made told in
     let cleared = c.in_ok-clear_pages.ensures.cleared told in
     let logs = weaker d zero one (SameRoot (d.reads zero)) IsNoneOrNew (c.make_logs.ensures.any_moment settled) (λ i is. none_logs (d.reads zero) i none is) in
-    let pages = weaker d one two (KeepsPages 0 (d.reads one)) IsNoneOrNew (c.clear_pages.ensures.any_moment (settled_by d one told c.in_ok-make_logs.ensures.durable))
+    let pages = weaker d one two (KeepsPageBytes 0 (d.reads one)) IsNoneOrNew (c.clear_pages.ensures.any_moment (settled_by d one told c.in_ok-make_logs.ensures.durable))
     (λ i is. none_cleared 0 (d.reads one) i (none_one (d.reads zero) (d.reads one) none ready) is) in
     let root = weaker d two new (IsOldOrNewValue RootBlock (root_block new_root) (d.reads two)) IsNoneOrNew (c.write_root.ensures.any_moment (settled_by d two told c.in_ok-clear_pages.ensures.durable))
     (λ i is. new_step (d.reads zero) (d.reads one) (d.reads two) none ready cleared i is) in

@@ -4,7 +4,7 @@ use Rattle.ctr_area.specs.Images.{is_committed_in}
 use Rattle.ctr_record_effects.specs.States.{area_in}
 use Rattle.ctr_record_effects.specs.Standing.{HasSoundArea, IsDatabaseState}
 use Rattle.ctr_walk.proofs.PagesRead.{still_goes, same_now, was_read}
-use Rattle.ctr_reading.specs.Reading.{as_told, sees, IsDiskOrMemory}
+use Rattle.ctr_reading.specs.Reading.{as_told, sight_sees, IsDiskOrMemory}
 use Rattle.ctr_reading.proofs.Told.{reads_further, told_err, told_ok}
 use Rattle.ctr_survey.specs.declared.counting.Counts.{Counts}
 use Rattle.ctr_survey.specs.Standing.{CountsEntry}
@@ -41,7 +41,7 @@ loop-entry-preserved g c = record {
       let s = c.args.store.now.now in
       let e = c.loop-entry.entry in
       let same = same_now g.O.Origin.first g.D.Disk _ c.args.store.now c.loop-entry.store c.loop-entry.invariant.read told sound in
-      let by_sight = subst (λ (t : State). HasSoundArea t → CountsEntry (sees t.tables c.args.sight.now) (area_in t) e c.in-Ok.found) same (c.in-Ok.ensures.counts told sound) area_sound in
+      let by_sight = subst (λ (t : State). HasSoundArea t → CountsEntry (sight_sees t.tables c.args.sight.now) (area_in t) e c.in-Ok.found) same (c.in-Ok.ensures.counts told sound) area_sound in
       let counts = counted_committed s.tables c.args.sight.now (area_in s) e c.in-Ok.found seen by_sight in
       told_counted (is_committed_in s.tables) (area_in s) area_sound.names.standing e c.in-Ok.found c.loop-entry.counts c.with-counts.result c.loop-entry-test.true c.with-counts.ensures counts
       (c.loop-entry.invariant.are told sound area_sound seen);

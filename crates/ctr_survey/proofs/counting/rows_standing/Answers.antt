@@ -7,7 +7,7 @@ use Rattle.ctr_redo.specs.States.{State}
 use Rattle.ctr_record_effects.specs.States.{area_in}
 use Rattle.ctr_record_effects.specs.Standing.{HasSoundArea}
 use Rattle.ctr_walk.proofs.Damages.{reads_err}
-use Rattle.ctr_reading.specs.Reading.{as_told, sees, GivesShown}
+use Rattle.ctr_reading.specs.Reading.{as_told, sight_sees, GivesShown}
 use Rattle.ctr_reading.proofs.Told.{reads_behind, told_err, told_ok}
 use Rattle.ctr_survey.proofs.Shown.{shown_many, told_standing}
 use Rattle.ctr_survey.proofs.counting.rows_standing.Goals as goal
@@ -34,7 +34,7 @@ returns-in-Ok-rows_of_table-clause-counts g c = λ told sound area_sound.
     let same = (c.in-Ok.ensures.leaves.logs told sound).now in
     let tables = ap (λ (m : TablesKept). m.tables) c.meta.ensures.tables ∙ c.meta.ensures.now told sound c.in-Ok.ensures.leaves.going ∙ ap (λ (t : State). t.tables) same in
     let rows : Result Rows OutOfMemory = Ok c.in-Ok-rows_of_table.rows in
-    let shown = subst (λ (t : State). HasSoundArea t → GivesShown (sees t.tables sight) (area_in t) e rows) same (c.in-Ok-rows_of_table.ensures.shows told sound) area_sound in (
+    let shown = subst (λ (t : State). HasSoundArea t → GivesShown (sight_sees t.tables sight) (area_in t) e rows) same (c.in-Ok-rows_of_table.ensures.shows told sound) area_sound in (
       told_standing a.tables c.meta.result.now.tables sight ((area_in a).title e) c.in-Ok.made c.stands.result tables (c.in-Ok.ensures.tells told sound) c.stands.ensures ∙ c.if-not-stands.false,
-      c.len.ensures ∙ ap (λ (rs : List Row). length rs) shown.2 ∙ shown_many (sees a.tables sight) (area_in a) e area_sound.keys shown.0 shown.1,
+      c.len.ensures ∙ ap (λ (rs : List Row). length rs) shown.2 ∙ shown_many (sight_sees a.tables sight) (area_in a) e area_sound.keys shown.0 shown.1,
     )

@@ -4,7 +4,7 @@ use Rattle.clap.proofs.OnLiterals.{clap_on_literals}
 use Rattle.clap.specs.Words.{HasKind, fault_of, is_simple, is_simple_and_free, kind_of, subcommand_of}
 use Rattle.ctr_words.specs.Words.{has_folder, simple_command}
 use Rattle.ctr_words.proofs.WordLemmas.{all_read, taken, refused}
-use Rattle.ctr_words.specs.Read.{IsRead}
+use Rattle.ctr_words.specs.Read.{IsRunRead}
 use Rattle.std.specs.Prelude.{IfSome}
 use Rattle.ctr_words.proofs.words.parse.Goals as goal
 
@@ -23,7 +23,7 @@ returns-in-Ok c =
     let folder : has_folder words ≡ true = sym c.is_over_folder.ensures ∙ c.if-not-is_over_folder.false in
     let fine = sym (ap (λ a. fault_of a words) app) ∙ c.in-Ok.ensures.kinds (ap is_simple_and_free app ∙ is_free) in
     let rows = (c.in-Ok.ensures.matches (ap is_simple app ∙ is_plain)).1 ∙ ap (λ a. subcommand_of a words) app in
-    c.met.ensures (subst (λ o. IfSome o IsRead) (sym rows) (all_read words fine)) ∙ taken words c.in-Ok.matches folder fine rows
+    c.met.ensures (subst (λ o. IfSome o IsRunRead) (sym rows) (all_read words fine)) ∙ taken words c.in-Ok.matches folder fine rows
 
 pub returns : goal.returns
 returns c =

@@ -2,7 +2,7 @@ use Rattle.std.proofs.Common.{true, sym, ◌∙◌, ap, subst}
 use Rattle.ctr_meta.specs.Kept.{TablesKept}
 use Rattle.ctr_store.specs.Store.{View}
 use Rattle.ctr_pass.specs.txn_Held.{TxnsHeld}
-use Rattle.ctr_pass.specs.exec_Order.{IsOrdered}
+use Rattle.ctr_pass.specs.exec_Order.{IsTapeOrdered}
 use Rattle.ctr_pass.specs.exec_Sessions.{AreSeated}
 use Rattle.ctr_pass.specs.cursor_Pass.{start}
 use Rattle.ctr_pass.specs.declared.pass.Phase.TheVariants.{Calm}
@@ -17,7 +17,7 @@ returns-clause-begun g c =
     let kept = c.keep_cleaners.ensures.sets in
     record {
       seats = λ counted. subst (λ (t : TxnsHeld). AreSeated (record h { txns = t }) counted) (sym kept) (law.seats h counted true (e.seats counted));
-      ordered = λ from now more. subst (λ (t : TxnsHeld). IsOrdered from now (record h { txns = t })) (sym kept) (law.order from now h true (e.ordered from now more));
+      ordered = λ from now more. subst (λ (t : TxnsHeld). IsTapeOrdered from now (record h { txns = t })) (sym kept) (law.order from now h true (e.ordered from now more));
       unkept = h;
       fresh = e.fresh;
       kept = ap (λ (t : TxnsHeld). record h { txns = t }) kept;

@@ -1,6 +1,6 @@
 use Rattle.std.proofs.lemmas.List.Elements.{All-set}
-use Rattle.ctr_directory.specs.Chains.{IsKept}
+use Rattle.ctr_directory.specs.Chains.{IsRemembered}
 use Rattle.ctr_directory.proofs.directory.Directory.begin.Goals as goal
 
 pub returns : goal.returns
-returns c = λ pages is all. All-set (IsKept c.args.counted pages) c.args.self.now.buckets.items c.number_of-number.result c.begin.new.self (c.begin.ensures pages is) all
+returns c = λ pages is all. All-set (IsRemembered c.args.counted pages) c.args.self.now.buckets.items c.number_of-number.result c.begin.new.self (c.begin.ensures pages is) all

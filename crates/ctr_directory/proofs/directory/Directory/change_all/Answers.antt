@@ -2,7 +2,7 @@ use Rattle.std.proofs.Common.{◌<◌, length, subst, sym, ◌∙◌, arith}
 use Rattle.std.proofs.lemmas.List.{length-set}
 use Rattle.std.proofs.lemmas.List.Elements.{AllWithin-more_set}
 use Rattle.ctr_directory.specs.declared.remembered.Remembered.{Remembered}
-use Rattle.ctr_directory.specs.Chains.{IsKept}
+use Rattle.ctr_directory.specs.Chains.{IsRemembered}
 use Rattle.ctr_directory.proofs.Stepping.{rest_behind}
 use Rattle.ctr_directory.proofs.directory.Directory.change_all.Goals as goal
 
@@ -16,7 +16,7 @@ loop-i-preserved c =
       λ a b changes all.
           let both = c.loop-i.invariant.1 a b changes all in
           let now = both.1 i c.index_mut.result.now (omega arith) c.loop-i-test.true in
-          (AllWithin-more_set xs i v there (IsKept c.args.counted b) both.0 (c.changed.ensures a b changes (subst (λ (x : Remembered). IsKept c.args.counted a x) (sym c.index_mut.ensures.value) now)), rest_behind (IsKept c.args.counted a) xs i c.len-i-end.result v both.1),
+          (AllWithin-more_set xs i v there (IsRemembered c.args.counted b) both.0 (c.changed.ensures a b changes (subst (λ (x : Remembered). IsRemembered c.args.counted a x) (sym c.index_mut.ensures.value) now)), rest_behind (IsRemembered c.args.counted a) xs i c.len-i-end.result v both.1),
     )
 
 pub returns : goal.returns

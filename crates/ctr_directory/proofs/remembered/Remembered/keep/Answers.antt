@@ -2,7 +2,7 @@ use Rattle.std.proofs.Common.{◌≡◌, ◌+◌, ◌/◌, false, sym, ◌∙◌
 use Rattle.std.specs.Prelude.{nat_eq}
 use Rattle.indexmap.specs.IndexSet.{contains}
 use Rattle.ctr_directory.specs.declared.remembered.Remembered.{Remembered}
-use Rattle.ctr_directory.specs.Chains.{kinds_kept, BucketSaid, IsBucket}
+use Rattle.ctr_directory.specs.Chains.{kinds_kept, BucketSaid, IsRememberedBucket}
 use Rattle.ctr_directory.proofs.Buckets.{page_apart}
 use Rattle.ctr_directory.proofs.remembered.Remembered.keep.Goals as goal
 
@@ -22,4 +22,4 @@ returns-then-contains c = λ a b changes yes old.
     let said = e.said c.args.before.now a b changes c.if-not-reread_at.false old.said in
     c.renew_page.ensures a b s.first changes yes
     (subst (λ (x : Remembered). BucketSaid c.args.counted x.entry x.bucket (b (1 + x.entry / 16)) (kinds_kept x) r.first) (sym e.same) said)
-    (subst (λ (x : Remembered). IsBucket c.args.counted a (record x { first = s.first })) (sym e.same) old)
+    (subst (λ (x : Remembered). IsRememberedBucket c.args.counted a (record x { first = s.first })) (sym e.same) old)

@@ -16,7 +16,7 @@ use Rattle.ctr_exec.specs.declared.runners.Stage.{Stage}
 use Rattle.ctr_exec.specs.declared.sessions.Sessions.{Sessions}
 use Rattle.ctr_exec.specs.Acting.{IsMidway, LeavesAct, LeavesAsking, MayAct, RollsAct, TurnOfAct}
 use Rattle.ctr_exec.specs.Runners.{made_at, runner_at}
-use Rattle.ctr_exec.specs.Sessions.{entries_by, held_by}
+use Rattle.ctr_exec.specs.Sessions.{entries_by, sessions_held_by}
 use Rattle.ctr_exec.proofs.Noting.{all_at, capacity_now, held_now, len_now, runners_now, script_now, stuck_now, tape_now, txns_now}
 use Rattle.ctr_exec.proofs.Going.{sound_in}
 use Rattle.ctr_exec.proofs.Ordered.{adds_acted}
@@ -57,9 +57,9 @@ returns-in-Err-clause-told g c = λ run opened w tells sound before.
     let a = c.args.store.now in
     let b = c.act-acted.new.store in
     let now : SessionsHeld = record { txns = c.act-acted.new.txns; locks = c.act-acted.new.locks } in
-    let told = subst (λ (q : Stage). (next : IsNextOf g.D.Disk run opened a b (held_by h) s line.line.statement (made_at q)) → h.stuck ≡ (state_now run next.mind).stuck → IsMidway run s line.line.statement next.mind q → c.in-Err.fault ≡ Fault) c.take-place.ensures.stage
-    (subst (λ (z : Statement). (next : IsNextOf g.D.Disk run opened a b (held_by h) s z (made_at c.take-place.result.1)) → h.stuck ≡ (state_now run next.mind).stuck → IsMidway run s z next.mind c.take-place.result.1 → c.in-Err.fault ≡ Fault) said
-    (subst (λ (z : Sessions). (next : IsNextOf g.D.Disk run opened a b (held_by z) s c.statement_at-statement.result.now (made_at c.take-place.result.1)) → z.stuck ≡ (state_now run next.mind).stuck → IsMidway run s c.statement_at-statement.result.now next.mind c.take-place.result.1 → c.in-Err.fault ≡ Fault) same
+    let told = subst (λ (q : Stage). (next : IsNextOf g.D.Disk run opened a b (sessions_held_by h) s line.line.statement (made_at q)) → h.stuck ≡ (state_now run next.mind).stuck → IsMidway run s line.line.statement next.mind q → c.in-Err.fault ≡ Fault) c.take-place.ensures.stage
+    (subst (λ (z : Statement). (next : IsNextOf g.D.Disk run opened a b (sessions_held_by h) s z (made_at c.take-place.result.1)) → h.stuck ≡ (state_now run next.mind).stuck → IsMidway run s z next.mind c.take-place.result.1 → c.in-Err.fault ≡ Fault) said
+    (subst (λ (z : Sessions). (next : IsNextOf g.D.Disk run opened a b (sessions_held_by z) s c.statement_at-statement.result.now (made_at c.take-place.result.1)) → z.stuck ≡ (state_now run next.mind).stuck → IsMidway run s c.statement_at-statement.result.now next.mind c.take-place.result.1 → c.in-Err.fault ≡ Fault) same
     (λ next stuck at. c.in-Err.ensures.told run opened tells sound next stuck at))) in
     told (next g.D.Disk run opened a b h h w before s c.requires.go.0.one line.line.statement line.named c.act-acted.ensures.disk.later) before.stuck (at_stage g.D.Disk run opened a b h h w before s c.requires.go.0.one line.line.statement line.named c.act-acted.ensures.disk.later)
 
@@ -122,14 +122,14 @@ returns-in-Ok-clause-told g c = λ run opened w tells sound before.
     let leaves = subst (λ (t : TxnsHeld). LeavesAct (runner_at s h.runners.items).stage s line.line.statement t n l) (sym txns_is)
     (subst (λ (q : Stage). LeavesAct q s line.line.statement txns n l) c.take-place.ensures.stage
     (subst (λ (z : Statement). LeavesAct c.take-place.result.1 s z txns n l) said c.in-Ok.ensures.ready)) in
-    let turn = subst (λ (q : Stage). (next : IsNextOf g.D.Disk run opened a b (held_by h) s line.line.statement (made_at q)) → h.stuck ≡ (state_now run next.mind).stuck → IsMidway run s line.line.statement next.mind q → TurnOfAct next held (Ok l)) c.take-place.ensures.stage
-    (subst (λ (z : Statement). (next : IsNextOf g.D.Disk run opened a b (held_by h) s z (made_at c.take-place.result.1)) → h.stuck ≡ (state_now run next.mind).stuck → IsMidway run s z next.mind c.take-place.result.1 → TurnOfAct next held (Ok l)) said
-    (subst (λ (z : Sessions). (next : IsNextOf g.D.Disk run opened a b (held_by z) s c.statement_at-statement.result.now (made_at c.take-place.result.1)) → z.stuck ≡ (state_now run next.mind).stuck → IsMidway run s c.statement_at-statement.result.now next.mind c.take-place.result.1 → TurnOfAct next held (Ok l)) same
+    let turn = subst (λ (q : Stage). (next : IsNextOf g.D.Disk run opened a b (sessions_held_by h) s line.line.statement (made_at q)) → h.stuck ≡ (state_now run next.mind).stuck → IsMidway run s line.line.statement next.mind q → TurnOfAct next held (Ok l)) c.take-place.ensures.stage
+    (subst (λ (z : Statement). (next : IsNextOf g.D.Disk run opened a b (sessions_held_by h) s z (made_at c.take-place.result.1)) → h.stuck ≡ (state_now run next.mind).stuck → IsMidway run s z next.mind c.take-place.result.1 → TurnOfAct next held (Ok l)) said
+    (subst (λ (z : Sessions). (next : IsNextOf g.D.Disk run opened a b (sessions_held_by z) s c.statement_at-statement.result.now (made_at c.take-place.result.1)) → z.stuck ≡ (state_now run next.mind).stuck → IsMidway run s c.statement_at-statement.result.now next.mind c.take-place.result.1 → TurnOfAct next held (Ok l)) same
     (λ next stuck at. c.in-Ok.ensures.told run opened tells sound next stuck at))) in
     let follows = next g.D.Disk run opened a b h now w before s go.one line.line.statement line.named c.act-acted.ensures.disk.later in
-    let rolls = subst (λ (q : Stage). IsNextOf g.D.Disk run opened a b (held_by h) s line.line.statement (made_at q) → line.line.statement ≡ st.Rollback → IsWriting s h.txns → RollsAct (number_drawn s h.txns) a b l) c.take-place.ensures.stage
-    (subst (λ (z : Statement). IsNextOf g.D.Disk run opened a b (held_by h) s z (made_at c.take-place.result.1) → z ≡ st.Rollback → IsWriting s h.txns → RollsAct (number_drawn s h.txns) a b l) said
-    (subst (λ (z : Sessions). IsNextOf g.D.Disk run opened a b (held_by z) s c.statement_at-statement.result.now (made_at c.take-place.result.1) → c.statement_at-statement.result.now ≡ st.Rollback → IsWriting s z.txns → RollsAct (number_drawn s z.txns) a b l) same
+    let rolls = subst (λ (q : Stage). IsNextOf g.D.Disk run opened a b (sessions_held_by h) s line.line.statement (made_at q) → line.line.statement ≡ st.Rollback → IsWriting s h.txns → RollsAct (number_drawn s h.txns) a b l) c.take-place.ensures.stage
+    (subst (λ (z : Statement). IsNextOf g.D.Disk run opened a b (sessions_held_by h) s z (made_at c.take-place.result.1) → z ≡ st.Rollback → IsWriting s h.txns → RollsAct (number_drawn s h.txns) a b l) said
+    (subst (λ (z : Sessions). IsNextOf g.D.Disk run opened a b (sessions_held_by z) s c.statement_at-statement.result.now (made_at c.take-place.result.1) → c.statement_at-statement.result.now ≡ st.Rollback → IsWriting s z.txns → RollsAct (number_drawn s z.txns) a b l) same
     (λ next is writing. c.in-Ok.ensures.rolls run opened tells sound next is writing))) in
     let its = subst (λ (z : SessionsHeld). TurnOfAct follows z (Ok l)) (sym (held_now h mid now m go.seats s go.one txns locks l c.moment.result same c.take-place.ensures.runners told.is told.tape told.len told.capacity told.runners))
     (turn follows before.stuck (at_stage g.D.Disk run opened a b h now w before s go.one line.line.statement line.named c.act-acted.ensures.disk.later)) in

@@ -5,7 +5,7 @@ use Rattle.ctr_control.specs.txn_Held.{TxnsHeld}
 use Rattle.ctr_control.specs.ctr_session_world.Ready.{StandOver}
 use Rattle.ctr_exec.specs.declared.sessions.Sessions.{Sessions}
 use Rattle.ctr_control.specs.Answers.{IsAnswered}
-use Rattle.ctr_exec.specs.Sessions.{held_by, noted}
+use Rattle.ctr_exec.specs.Sessions.{sessions_held_by, noted_entry}
 use Rattle.ctr_exec.specs.Runners.{runner_at}
 use Rattle.ctr_exec.proofs.Answering.{answers_none, goes_answer}
 use Rattle.ctr_exec.proofs.Going.{sound_in}
@@ -49,10 +49,10 @@ returns-in-Some-clause-told g c = λ run opened w tells sound going before.
     let note = c.note.ensures in
     let answered = c.in-Some.ensures.told run opened tells sound going (record { mind = w; world = before.world }) in
     goes_answer g.D.Disk run opened c.args.store.now h now w before s c.in-Some.asked c.in-Some.ensures.next.0.one
-    (subst (λ z. IsAnswered (record { mind = w; world = before.world }) (s, c.in-Some.asked) z) (sym (ap held_by note.is)) answered)
+    (subst (λ z. IsAnswered (record { mind = w; world = before.world }) (s, c.in-Some.asked) z) (sym (ap sessions_held_by note.is)) answered)
     c.args.store.now.now.counted c.requires.seats (sound_in g.D.Disk run opened c.args.store.now h w c.legal_states_are_sound.ensures before) c.what_a_write_counts_on_stays.ensures c.snapshots_stay.ensures
     (ap (λ (z : Sessions). z.script) note.is) (ap (λ (z : Sessions). z.stuck) note.is) note.runners
-    (note.tape ∙ ap (λ n. h.tape.items ++ noted s (runner_at s h.runners.items) act.Answer (reply.Answered c.in-Some.asked.k) n ∷ []) c.moment.ensures)
+    (note.tape ∙ ap (λ n. h.tape.items ++ noted_entry s (runner_at s h.runners.items) act.Answer (reply.Answered c.in-Some.asked.k) n ∷ []) c.moment.ensures)
 
 pub returns-in-None-clause-adds : goal.returns-in-None-clause-adds
 returns-in-None-clause-adds g c = λ before le. answers_none_added before (g.D.Disk.moment_of c.args.store.now.disk) c.args.self.now c.answer_one.new.txns c.answer_one.new.locks le
@@ -64,4 +64,4 @@ returns-in-Some-clause-adds g c = λ before le.
     let note = c.note.ensures in
     answer_added h c.note.new.self c.args.store.now.now.counted c.requires.seats s c.in-Some.asked c.answer_one.new.txns c.in-Some.ensures.next.0 before (g.D.Disk.moment_of c.args.store.now.disk) le
     (ap (λ (z : Sessions). z.script) note.is) (ap (λ (z : Sessions). z.stuck) note.is) note.runners
-    (note.tape ∙ ap (λ n. h.tape.items ++ noted s (runner_at s h.runners.items) act.Answer (reply.Answered c.in-Some.asked.k) n ∷ []) c.moment.ensures)
+    (note.tape ∙ ap (λ n. h.tape.items ++ noted_entry s (runner_at s h.runners.items) act.Answer (reply.Answered c.in-Some.asked.k) n ∷ []) c.moment.ensures)

@@ -1,5 +1,5 @@
 use Rattle.ctr_control.proofs.ctr_session_world.Disks.{disk_page}
-use Rattle.ctr_exec.specs.Sessions.{held_by}
+use Rattle.ctr_exec.specs.Sessions.{sessions_held_by}
 use Rattle.ctr_exec.proofs.Fewer.{flush_falls}
 use Rattle.ctr_exec.proofs.Going.{goes_answered, shows_behind}
 use Rattle.ctr_exec.proofs.Ordered.{adds_answers}
@@ -10,7 +10,7 @@ returns-in-Ok-clause-told g c = λ run opened w tells sound before.
     let h = c.args.self.now in
     let a = c.args.store.now in
     let b = c.flush.new.store in
-    let world = c.in-Ok.ensures.kept run opened (held_by h) w tells sound before.world in
+    let world = c.in-Ok.ensures.kept run opened (sessions_held_by h) w tells sound before.world in
     goes_answered g.D.Disk run opened a b h c.answer.new.self w c.args.s before (c.in-Ok.ensures.leaves.logs tells sound).now world
     (c.answer.ensures.told run opened w tells sound c.in-Ok.ensures.leaves.going (shows_behind g.D.Disk run opened a b h w before world))
 

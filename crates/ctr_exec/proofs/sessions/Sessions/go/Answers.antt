@@ -1,7 +1,7 @@
 use Rattle.std.proofs.Common.{sym, ◌∙◌}
 use Rattle.std.proofs.lemmas.Bool.{false≢true}
 use Rattle.ctr_control.proofs.ctr_session_world.Disks.{disk_page}
-use Rattle.ctr_exec.specs.Sessions.{held_by}
+use Rattle.ctr_exec.specs.Sessions.{sessions_held_by}
 use Rattle.ctr_exec.proofs.Fewer.{rooms_fall, waited_falls}
 use Rattle.ctr_exec.proofs.Going.{act_takes, flush_takes, pages_behind, room_takes}
 use Rattle.ctr_exec.proofs.Ordered.{adds_alone}
@@ -18,7 +18,7 @@ returns-then-room-clause-told g c = λ run opened w tells sound before.
 pub returns-clause-told : goal.returns-clause-told
 returns-clause-told g c = λ run opened w tells sound before.
     room_takes g.D.Disk run opened c.args.store.now c.make_room.new.store c.args.self.now w c.args.s before (c.waits.ensures.no c.if-waits.false) (λ room. false≢true (sym c.if-room.false ∙ c.room.ensures.told.1 room)) c.make_room.result
-    (pages_behind g.O.Origin.first g.D.Disk c.args.store.now c.make_room.new.store c.make_room.result c.make_room.ensures.leaves tells sound) (c.make_room.ensures.kept run opened (held_by c.args.self.now) w tells sound before.world) c.make_room.ensures.nearer (c.make_room.ensures.refused tells sound)
+    (pages_behind g.O.Origin.first g.D.Disk c.args.store.now c.make_room.new.store c.make_room.result c.make_room.ensures.leaves tells sound) (c.make_room.ensures.kept run opened (sessions_held_by c.args.self.now) w tells sound before.world) c.make_room.ensures.nearer (c.make_room.ensures.refused tells sound)
 
 pub returns-clause-adds : goal.returns-clause-adds
 returns-clause-adds g c = adds_alone c.args.s (g.D.Disk.moment_of c.args.store.now.disk) (g.D.Disk.moment_of c.make_room.new.store.disk) c.args.self.now c.make_room.result c.make_room.ensures.leaves.time.later

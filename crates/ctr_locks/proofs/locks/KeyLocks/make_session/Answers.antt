@@ -1,6 +1,6 @@
 use Rattle.std.proofs.Common.{Some, sym, ◌∙◌, ap, subst}
 use Rattle.std.specs.Prelude.{is_some, not}
-use Rattle.ctr_locks.specs.Held.{OfSession, SameHeld, IsFound}
+use Rattle.ctr_locks.specs.Held.{OfSession, SameHeld, IsSessionThere}
 use Rattle.ctr_locks.proofs.Maps.{uncopied, copied}
 use Rattle.ctr_locks.proofs.Sessions.{session_is, put_same, put_there, same_one, kept_of}
 use Rattle.ctr_locks.proofs.locks.KeyLocks.make_session.Goals.{in-Some-1, in-None-1}
@@ -21,8 +21,8 @@ pub returns-in_ok-insert-clause-there : goal.returns-in_ok-insert-clause-there
 returns-in_ok-insert-clause-there c =
     let put = put_there c.self.inside.sessions c.args.self.now c.self.view_is c.args.s c.insert.new.self (Some c.new.result) c.in_ok-insert.ensures.updates (ap (λ h. Some h) c.new.ensures) in
     elim c.match-branch-2.branch [
-      | in-Some-1 w ↦ subst (IsFound c.args.s) (sym w.self-is) put
-      | in-None-1 w ↦ subst (IsFound c.args.s) (sym w.self-is) put
+      | in-Some-1 w ↦ subst (IsSessionThere c.args.s) (sym w.self-is) put
+      | in-None-1 w ↦ subst (IsSessionThere c.args.s) (sym w.self-is) put
     ]
 
 pub returns-else-is_none-clause-there : goal.returns-else-is_none-clause-there

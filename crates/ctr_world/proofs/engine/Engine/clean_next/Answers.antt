@@ -14,7 +14,7 @@ use Rattle.ctr_pass.specs.Passing.{pass_behind}
 use Rattle.ctr_pass.specs.Sparing.{with_cleaner}
 use Rattle.ctr_world.specs.Cleaning.{noted_pass}
 use Rattle.ctr_world.specs.Held.{running}
-use Rattle.ctr_world.specs.World.{IsReady, KeepsPassIn, Shows}
+use Rattle.ctr_world.specs.World.{IsWorldReady, KeepsPassIn, Shows}
 use Rattle.ctr_world.proofs.Cleaned.{Laws, RestLaws, cleans_or_passes, heeds_nobody, pass_cleaned, place_behind, ready_cleaned, shows_cleaned, still_going, turned, within_moved}
 use Rattle.ctr_world.proofs.engine.Engine.clean_next.Goals as goal
 
@@ -30,7 +30,7 @@ returns-in-Ok-clause-ready g c =
     let room = c.room_for_the_cleaner_leaves_the_sessions.ensures in
     let item = c.keeps_room.result in
     let ready = c.requires.ready in
-    subst (λ (t : TxnsHeld). IsReady g.B.Opening g.D.Disk (record w { store = b; sessions = record w.sessions { txns = t }; pass = c.behind-self.result })) (sym c.keep_cleaners.ensures.sets)
+    subst (λ (t : TxnsHeld). IsWorldReady g.B.Opening g.D.Disk (record w { store = b; sessions = record w.sessions { txns = t }; pass = c.behind-self.result })) (sym c.keep_cleaners.ensures.sets)
     (ready_cleaned g.B.Opening g.D.Disk w b item c.behind-self.result ready
     (subst (λ (i : Bool). StandOver (with_cleaner i w.sessions.txns) b) (sym c.keeps_room.ensures) (room.stands w.sessions.txns a b may went.did ready.stand e.counts c.may_empty-may.ensures.unlink))
     (still_going first g.D.Disk a b went e.turns) e.counts.counted (disk_turn first g.D.Disk a b _ e.turns).later

@@ -1,13 +1,13 @@
 use Rattle.std.proofs.Common.{◌≡◌, ◌+◌, ◌<◌, Ok, sym, subst}
 use Rattle.ctr_store.specs.Store.{View}
 use Rattle.ctr_undo.specs.Left.{UndoLeft}
-use Rattle.ctr_undo.specs.Turns.{EndsTurn, LogsNext, MayUndo, TakesNext}
+use Rattle.ctr_undo.specs.Turns.{EndsUndoTurn, LogsNext, MayUndo, TakesNextItem}
 use Rattle.ctr_undo.specs.declared.turning.UndoTurn.{UndoTurn}
 use Rattle.ctr_pass.specs.exec_Sessions.{turns_left}
 use Rattle.ctr_pass.proofs.exec_Fewer.{numbers_fall}
 use Rattle.ctr_world.specs.declared.engine.Engine.{Engine}
 use Rattle.ctr_world.specs.Held.{running}
-use Rattle.ctr_world.specs.World.{IsReady, Shows, start_in}
+use Rattle.ctr_world.specs.World.{IsWorldReady, Shows, start_in}
 use Rattle.ctr_world.proofs.Undoing.{at_rest, disk_refused, disk_undone, later_of, left_behind, number_of, own_lines, ready_undone, taken_fewer}
 use Rattle.ctr_world.proofs.Undone.{Laws, goes_one, undone_so}
 use Rattle.ctr_world.proofs.engine.Engine.undo_next.Goals as goal
@@ -29,11 +29,11 @@ returns-in-Ok-Undone-clause-ready g c =
     let goes = c.let_go.ensures.goes in
     let held = c.let_go.ensures.held in
     let ready = c.requires.ready in
-    subst (λ (x : Engine g.row.D.Denot g.row.B.Denot). IsReady g.B.Opening g.D.Disk (running x)) (sym c.let_go.ensures.same)
+    subst (λ (x : Engine g.row.D.Denot g.row.B.Denot). IsWorldReady g.B.Opening g.D.Disk (running x)) (sym c.let_go.ensures.same)
     (ready_undone g.B.Opening g.D.Disk w b c.turn.new.list now.names.items now.sessions goes.told (g.D.Disk.moment_of b.disk) ready e.left e.going
     (number_of g.B.Origin.first g.D.Disk w.undo w.store b one).counted goes.behind c.let_go.ensures.seats (record { named = held.named; only = held.only })
     (c.let_go.ensures.order g.B.Opening.start (g.D.Disk.moment_of w.store.disk) (later_of g.B.Origin.first g.D.Disk w.undo w.store b c.turn.result c.turn.ensures.one) ready.ordered)
-    (taken_fewer w.undo c.turn.new.list (subst (λ (r : UndoTurn). TakesNext w.undo c.turn.new.list (Ok r)) was e.takes)))
+    (taken_fewer w.undo c.turn.new.list (subst (λ (r : UndoTurn). TakesNextItem w.undo c.turn.new.list (Ok r)) was e.takes)))
 
 pub returns-in-Ok-Undone-clause-shows : goal.returns-in-Ok-Undone-clause-shows
 returns-in-Ok-Undone-clause-shows g c = λ s tells sound shows.
@@ -56,7 +56,7 @@ returns-in-Ok-Undone-clause-shows g c = λ s tells sound shows.
       beside = c.undo_leaves_the_sessions.ensures.kept;
       beside_released = c.undo_leaves_the_sessions.ensures.released;
     } in
-    let does = subst (λ (r : UndoTurn). EndsTurn w.undo c.turn.new.list w.store.now b.now (Ok r)) was (e.undoes tells sound (subst (λ (u : UndoLeft). MayUndo u w.store.now) shows.undo (laws.may (start_in g.B.Opening s) shows.opened w.store shows.mind shows.shows.world.keeps))) in
+    let does = subst (λ (r : UndoTurn). EndsUndoTurn w.undo c.turn.new.list w.store.now b.now (Ok r)) was (e.undoes tells sound (subst (λ (u : UndoLeft). MayUndo u w.store.now) shows.undo (laws.may (start_in g.B.Opening s) shows.opened w.store shows.mind shows.shows.world.keeps))) in
     let rests = at_rest g.B.Origin.first g.D.Disk w.undo w.store b one tells sound (c.rests.ensures tells sound e.going) in
     subst (λ (x : Engine g.row.D.Denot g.row.B.Denot). Shows g.B.Opening g.B.Origin.first g.D.Disk s (running x)) (sym c.let_go.ensures.same)
     (undone_so g.B.Opening g.B.Origin.first g.D.Disk laws s w b c.turn.new.list now.names.items now.sessions shows does rests (own_lines g.B.Opening.lines c.requires.ready.lines)
