@@ -3,6 +3,7 @@
 
 mod gate;
 mod named;
+mod standing;
 mod turns;
 mod workers;
 

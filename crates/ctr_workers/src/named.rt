@@ -46,6 +46,10 @@ impl<T: Turns, B: Start<T>> Turns for Led<T, B> {
     fn done(&self) -> bool {
         self.turns.done()
     }
+
+    fn waiting(&self) -> u8 {
+        self.turns.waiting()
+    }
 }
 
 fn begun<T: Turns, B: Start<T>>(turns: T) -> Led<T, B>

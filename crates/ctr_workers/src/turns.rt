@@ -19,4 +19,9 @@ pub trait Turns {
 
     /// Whether every session is over.
     fn done(&self) -> bool;
+
+    /// The sessions that wait for what others do as well as they, bit s - 1 for session s: who takes turns may let others go before them.
+    fn waiting(&self) -> u8 {
+        0
+    }
 }

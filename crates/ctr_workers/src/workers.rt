@@ -4,6 +4,7 @@ ghost use Rattle.ctr_types.specs.declared.tape.Actor.TheVariants.{Flusher, Clean
 ghost use Rattle.ctr_workers.specs.Workers.{IsActor, AllTake, has_session_bit, is_last};
 
 use crate::gate::Gate;
+use crate::standing::Standing;
 use crate::turns::Turns;
 use ctr_types::{Actor, Turn};
 use std::sync::{Mutex, Wait};
@@ -25,28 +26,42 @@ fn is_last(actor: Actor, turn: Turn, done: bool) -> bool
 }
 
 // An actor's turn, under the lock, and whether it was its last. The lock is free again when this returns.
-fn take_turn<R: Wait, T: Turns>(rt: &R, shared: &Mutex<T>, actor: Actor) -> (Turn, bool)
+fn take_turn<R: Wait, T: Turns>(
+    rt: &R,
+    shared: &Mutex<T>,
+    standing: &Standing,
+    actor: Actor,
+) -> (Turn, bool)
     requires { T.takes actor }
 {
     let mut turns = shared.lock(rt);
     let turn = turns.turn(actor);
-    (turn, is_last(actor, turn, turns.done()))
+    let last = is_last(actor, turn, turns.done());
+    standing.tell(actor, turns.waiting(), last);
+    (turn, last)
 }
 
-// The turns of an actor, until its last one. One that had nothing to do lets others go first.
-fn work<R: Wait, T: Turns, G: Gate>(rt: &R, shared: &Mutex<T>, gate: &G, actor: Actor)
+// The turns of an actor, until its last one. One whose turn can wait, or that had nothing to do, lets others go first.
+fn work<R: Wait, T: Turns, G: Gate>(
+    rt: &R,
+    shared: &Mutex<T>,
+    standing: &Standing,
+    gate: &G,
+    actor: Actor,
+)
     requires actor { IsActor actor }
     requires takes { T.takes actor }
 {
     for n in 1..=MOST {
         gate.before(actor, n);
-        let (turn, last) = take_turn(rt, shared, actor);
+        let (turn, last) = take_turn(rt, shared, standing, actor);
         if last {
             return;
         }
         if matches!(turn, Turn::Idle | Turn::Short) {
             thread::yield_now();
         }
+        standing.wait(actor);
     }
 }
 
@@ -62,6 +77,7 @@ fn is_asked(sessions: u8, session: u8) -> bool
 fn work_session<R: Wait, T: Turns, G: Gate>(
     rt: &R,
     shared: &Mutex<T>,
+    standing: &Standing,
     sessions: u8,
     gate: &G,
     session: u8,
@@ -70,7 +86,7 @@ fn work_session<R: Wait, T: Turns, G: Gate>(
     requires takes { AllTake sessions T.takes }
 {
     if is_asked(sessions, session) {
-        work(rt, shared, gate, Actor::Session(session));
+        work(rt, shared, standing, gate, Actor::Session(session));
     }
 }
 
@@ -78,6 +94,7 @@ fn work_session<R: Wait, T: Turns, G: Gate>(
 fn work_two<R: Threads + Wait + Sync, T: Turns + Send, G: Gate + Sync>(
     rt: &R,
     shared: &Mutex<T>,
+    standing: &Standing,
     sessions: u8,
     gate: &G,
     first: u8,
@@ -89,10 +106,10 @@ fn work_two<R: Threads + Wait + Sync, T: Turns + Send, G: Gate + Sync>(
         rt,
         ||
             requires { (1 ≤ first) × (first ≤ 7) × AllTake sessions T.takes }
-        { work_session(rt, shared, sessions, gate, first) },
+        { work_session(rt, shared, standing, sessions, gate, first) },
         ||
             requires { (1 ≤ first) × (first ≤ 7) × AllTake sessions T.takes }
-        { work_session(rt, shared, sessions, gate, first + 1) },
+        { work_session(rt, shared, standing, sessions, gate, first + 1) },
     );
 }
 
@@ -100,6 +117,7 @@ fn work_two<R: Threads + Wait + Sync, T: Turns + Send, G: Gate + Sync>(
 fn work_four<R: Threads + Wait + Sync, T: Turns + Send, G: Gate + Sync>(
     rt: &R,
     shared: &Mutex<T>,
+    standing: &Standing,
     sessions: u8,
     gate: &G,
     first: u8,
@@ -111,10 +129,10 @@ fn work_four<R: Threads + Wait + Sync, T: Turns + Send, G: Gate + Sync>(
         rt,
         ||
             requires { (1 ≤ first) × (first ≤ 5) × AllTake sessions T.takes }
-        { work_two(rt, shared, sessions, gate, first) },
+        { work_two(rt, shared, standing, sessions, gate, first) },
         ||
             requires { (1 ≤ first) × (first ≤ 5) × AllTake sessions T.takes }
-        { work_two(rt, shared, sessions, gate, first + 2) },
+        { work_two(rt, shared, standing, sessions, gate, first + 2) },
     );
 }
 
@@ -122,6 +140,7 @@ fn work_four<R: Threads + Wait + Sync, T: Turns + Send, G: Gate + Sync>(
 fn work_sessions<R: Threads + Wait + Sync, T: Turns + Send, G: Gate + Sync>(
     rt: &R,
     shared: &Mutex<T>,
+    standing: &Standing,
     sessions: u8,
     gate: &G,
 )
@@ -131,10 +150,10 @@ fn work_sessions<R: Threads + Wait + Sync, T: Turns + Send, G: Gate + Sync>(
         rt,
         ||
             requires { AllTake sessions T.takes }
-        { work_four(rt, shared, sessions, gate, 1) },
+        { work_four(rt, shared, standing, sessions, gate, 1) },
         ||
             requires { AllTake sessions T.takes }
-        { work_four(rt, shared, sessions, gate, 5) },
+        { work_four(rt, shared, standing, sessions, gate, 5) },
     );
 }
 
@@ -142,6 +161,7 @@ fn work_sessions<R: Threads + Wait + Sync, T: Turns + Send, G: Gate + Sync>(
 fn work_pages<R: Threads + Wait + Sync, T: Turns + Send, G: Gate + Sync>(
     rt: &R,
     shared: &Mutex<T>,
+    standing: &Standing,
     gate: &G,
 )
     requires { T.takes Flusher × T.takes Cleaner }
@@ -150,10 +170,10 @@ fn work_pages<R: Threads + Wait + Sync, T: Turns + Send, G: Gate + Sync>(
         rt,
         ||
             requires { T.takes Flusher }
-        { work(rt, shared, gate, Actor::Flusher) },
+        { work(rt, shared, standing, gate, Actor::Flusher) },
         ||
             requires { T.takes Cleaner }
-        { work(rt, shared, gate, Actor::Cleaner) },
+        { work(rt, shared, standing, gate, Actor::Cleaner) },
     );
 }
 
@@ -161,6 +181,7 @@ fn work_pages<R: Threads + Wait + Sync, T: Turns + Send, G: Gate + Sync>(
 fn work_behind<R: Threads + Wait + Sync, T: Turns + Send, G: Gate + Sync>(
     rt: &R,
     shared: &Mutex<T>,
+    standing: &Standing,
     gate: &G,
 )
     requires { T.takes Undo × T.takes Flusher × T.takes Cleaner }
@@ -169,10 +190,10 @@ fn work_behind<R: Threads + Wait + Sync, T: Turns + Send, G: Gate + Sync>(
         rt,
         ||
             requires { T.takes Undo }
-        { work(rt, shared, gate, Actor::Undo) },
+        { work(rt, shared, standing, gate, Actor::Undo) },
         ||
             requires { T.takes Flusher × T.takes Cleaner }
-        { work_pages(rt, shared, gate) },
+        { work_pages(rt, shared, standing, gate) },
     );
 }
 
@@ -188,13 +209,15 @@ pub fn run_all<R: Threads + Wait + Sync, T: Turns + Send, G: Gate + Sync>(
 )
     requires { AllTake sessions T.takes }
 {
+    let shown = Standing::new(sessions);
+    let standing = &shown;
     join(
         rt,
         ||
             requires { AllTake sessions T.takes }
-        { work_sessions(rt, shared, sessions, gate) },
+        { work_sessions(rt, shared, standing, sessions, gate) },
         ||
             requires { T.takes Undo × T.takes Flusher × T.takes Cleaner }
-        { work_behind(rt, shared, gate) },
+        { work_behind(rt, shared, standing, gate) },
     );
 }
