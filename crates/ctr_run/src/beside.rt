@@ -6,7 +6,7 @@ ghost use Rattle.ctr_run.specs.Beside.{StepsTo};
 
 use ctr_base::Origin;
 use ctr_disk::Disk;
-use ctr_types::{Actor, Turn};
+use ctr_types::{Actor, Entry, Reply, Turn};
 use ctr_workers::{Gate, Turns, run_turns};
 use ctr_world::{Opening, World};
 use std::alloc::Global;
@@ -29,6 +29,45 @@ pub struct Workers<'a, R, G> {
 struct Locked<D: Disk, B: Origin + Opening> {
     world: World<D, B>,
     alloc: Global,
+    // So many entries of the tape were looked at: the sessions that asked for a commit in them and aren't answered, by their bits.
+    seen: usize,
+    asked: u8,
+}
+
+// The bit of a session.
+fn bit_of(session: u8) -> u8 {
+    if 1 <= session && session <= 8 {
+        1 << (session - 1)
+    } else {
+        0
+    }
+}
+
+// The sessions that have asked for a commit and aren't answered, behind more entries.
+fn asked_behind(entries: &[Entry], asked: u8) -> u8 {
+    let mut asked = asked;
+    for entry in entries {
+        match &entry.reply {
+            Reply::Asked { .. } => asked |= bit_of(entry.session),
+            Reply::Answered { .. } => asked &= !bit_of(entry.session),
+            _ => {}
+        }
+    }
+    asked
+}
+
+impl<D: Disk, B: Origin + Opening> Locked<D, B> {
+    // Looks at the entries that have come since.
+    fn look(&mut self)
+        ensures { self.new.world ≡ self.old.world }
+    {
+        let tape = self.world.tape();
+        let len = tape.len();
+        if self.seen < len {
+            self.asked = asked_behind(&tape[self.seen..], self.asked);
+            self.seen = len;
+        }
+    }
 }
 
 impl<D: Disk, B: Origin + Opening> Turns for Locked<D, B> {
@@ -37,11 +76,17 @@ impl<D: Disk, B: Origin + Opening> Turns for Locked<D, B> {
     ghost took = { λ actor answer old new. EndsTurn D.Disk answer actor old.world new.world };
 
     fn turn(&mut self, actor: Actor) -> Turn {
-        self.world.step(self.alloc, actor)
+        let turn = self.world.step(self.alloc, actor);
+        self.look();
+        turn
     }
 
     fn done(&self) -> bool {
         self.world.done()
+    }
+
+    fn waiting(&self) -> u8 {
+        self.asked
     }
 }
 
@@ -55,7 +100,13 @@ pub(crate) fn run_workers<
 >(workers: Workers<'_, R, G>, alloc: Global, world: World<D, B>, sessions: u8) -> World<D, B>
     ensures { ∥ LeadsByTurns IsActor (StepsTo D.Disk) world result ∥₁ }
 {
-    let locked = run_turns(workers.rt, Locked { world, alloc }, sessions, workers.gate);
-    let Locked { world, alloc: _ } = locked;
+    let locked = Locked {
+        world,
+        alloc,
+        seen: 0,
+        asked: 0,
+    };
+    let locked = run_turns(workers.rt, locked, sessions, workers.gate);
+    let Locked { world, .. } = locked;
     world
 }
