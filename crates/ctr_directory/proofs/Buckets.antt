@@ -8,10 +8,12 @@ use Rattle.std.specs.Ordering.{int_eq}
 use Rattle.ctr_page.specs.declared.rows.Place.{Place}
 use Rattle.ctr_page.specs.Reading.{header_in}
 use Rattle.ctr_directory.specs.declared.remembered.Remembered.{Remembered}
-use Rattle.ctr_directory.specs.Keys.{key_on, key_before, slots_of_kinds, KeysLead, over_slots}
+use Rattle.ctr_directory.specs.declared.slots.Span.{Span}
+use Rattle.ctr_directory.specs.Keys.{key_on, key_before, slots_of_kinds, SlotsPass, SlotsStay, KeysLead, over_slots}
+use Rattle.ctr_directory.proofs.Agreeing.{all_stay}
 use Rattle.ctr_directory.specs.Chains.{RowPagePasses, RunsAlong, BucketSaid, kinds_kept, checks_of, keys_in, IsRememberedBucket, ChangesPage, is_page_of, TellsKey, IsPlaceTold, Knows}
 use Rattle.ctr_directory.proofs.Leading.{by_test, leads_same}
-use Rattle.ctr_directory.proofs.Along.{has_on, runs_moved, runs_on}
+use Rattle.ctr_directory.proofs.Along.{has_on, each_passes, runs_moved, runs_on}
 use Rattle.ctr_directory.proofs.Keeping.{its_key, no_key, page_changed, page_elsewhere}
 
 module _ (counted : ℕ) (pages : ℕ → List ℕ) (s t : Remembered) (number : ℕ) (some : number ≢ 0) (old : IsRememberedBucket counted pages s)
@@ -48,13 +50,19 @@ module _ (counted : ℕ) (pages : ℕ → List ℕ) (s t : Remembered) (number :
       })
 
 -- one page has other bytes
-module _ (counted number : ℕ) (before after : List ℕ) (a b : ℕ → List ℕ) (changes : ChangesPage number before after a b) (s : Remembered) (old : IsRememberedBucket counted a s) where
+module _ (counted number : ℕ) (span : Span) (before after : List ℕ) (a b : ℕ → List ℕ) (changes : ChangesPage number span before after a b) (s : Remembered) (old : IsRememberedBucket counted a s) where
   -- what it had in its slots
   pub was_there : length before ≡ 4096 → contains nat_eq s.pages number ≡ true → (n : ℕ) → n < slots_of_kinds (kinds_kept s) → keys_in s.pages (kinds_kept s) a number n ≡ key_before (kinds_kept s) n before
   was_there whole is n lt =
       its_key s.pages (kinds_kept s) a number n is lt
       ∙ ap (λ page. key_on (kinds_kept s) n page) changes.was
       ∙ sym (ap (λ k. cond (k == 0) None (key_on (kinds_kept s) n before)) whole)
+
+  -- its slots that lie outside of the changed bytes stay
+  pub slots_stay : length before ≡ 4096 → length after ≡ 4096 → contains nat_eq s.pages number ≡ true → SlotsStay (kinds_kept s) counted span before after
+  slots_stay was is there =
+      let passes = each_passes (RowPagePasses (checks_of counted s)) a s.head old.chain s.rest number old.runs (sym (old.there number) ∙ there) in
+      all_stay (kinds_kept s) counted span before after was is changes.outside (subst (λ page. SlotsPass (kinds_kept s) counted (slots_of_kinds (kinds_kept s)) page) changes.was passes.1)
 
   module _ (t : Remembered) (said : BucketSaid counted s.entry s.bucket (b (1 + s.entry / 16)) (kinds_kept s) t.first) where
     -- it is one of the chain's

@@ -3,3 +3,5 @@ pub mod Along
 pub mod Keeping
 pub mod Buckets
 pub mod Stepping
+pub mod Agreeing
+pub mod Growing

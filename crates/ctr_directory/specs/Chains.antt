@@ -10,7 +10,8 @@ use Rattle.ctr_page.specs.Reading.{header_in}
 use Rattle.ctr_page.specs.Columns.{entry_at, first_in, columns_in, kinds_of}
 use Rattle.ctr_page.specs.Damage.{header_check, entry_check}
 use Rattle.ctr_directory.specs.declared.remembered.Remembered.{Remembered}
-use Rattle.ctr_directory.specs.Keys.{key_on, slots_of_kinds, SlotsPass, KeysLead}
+use Rattle.ctr_directory.specs.declared.slots.Span.{Span}
+use Rattle.ctr_directory.specs.Keys.{key_on, slots_of_kinds, SlotsPass, SaysSameOutside, KeysLead}
 
 -- by which checks the pages of a chain are read: the chain, the kinds of the columns behind the
 -- key, and how many pages are counted
@@ -111,8 +112,10 @@ pub record Knows (counted : ℕ) (pages : ℕ → List ℕ) (e bucket : ℕ) (ke
   pub tells : TellsKey kinds pages chain key found
   pub told : IsPlaceTold kinds pages chain key found
 
--- one page has other bytes now
-pub record ChangesPage (number : ℕ) (before after : List ℕ) (a b : ℕ → List ℕ) : Type 0 where
+-- one page has other bytes now, from one place up to another
+pub record ChangesPage (number : ℕ) (span : Span) (before after : List ℕ) (a b : ℕ → List ℕ)
+    : Type 0 where
   pub was : a number ≡ before
   pub is : b number ≡ after
+  pub outside : SaysSameOutside span before after
   pub others : (p : ℕ) → p ≢ number → b p ≡ a p

@@ -1,14 +1,17 @@
 -- The keys of the slots of pages, and a map that leads from each to its place.
-use Rattle.std.specs.Prelude.{◌≡◌, ◌↔◌, ◌<◌, ℕ, ◌==◌, ◌&&◌, nat_lt, ℤ, List, Option, None, Some, Ok, length, if◌then◌else◌}
+use Rattle.std.specs.Prelude.{◌≡◌, ◌↔◌, ◌<◌, ◌≤◌, ◌⊎◌, ◌+◌, ℕ, ◌==◌, ◌&&◌, nat_lt, ℤ, List, Option, None, Some, Ok, length, if◌then◌else◌}
 use Rattle.std.specs.Ordering.{int_eq}
 use Rattle.indexmap.specs.IndexMap.{IndexMap, get}
 use Rattle.ctr_rec.specs.types_Kind.{Kind}
 use Rattle.ctr_page.specs.declared.rows.Place.{Place}
 use Rattle.ctr_page.specs.declared.rows.RowSlot.{RowSlot}
+use Rattle.ctr_page.specs.declared.table.TheConstants.{PAGE_SIZE}
 use Rattle.ctr_page.specs.Places.{slot_size, room_for}
 use Rattle.ctr_page.specs.Reading.{slot_at}
 use Rattle.ctr_page.specs.Columns.{kinds_width, slot_start}
 use Rattle.ctr_page.specs.Damage.{slot_check}
+use Rattle.ctr_rec.specs.bytes_Fields.{field}
+use Rattle.ctr_directory.specs.declared.slots.Span.{Span}
 
 -- the key of a slot; none where it isn't used
 abbrev pub slot_key : RowSlot → Option ℤ
@@ -30,6 +33,29 @@ key_before kinds n page = if length page == 0 then None else key_on kinds n page
 abbrev pub SlotsPass : List Kind → ℕ → ℕ → List ℕ → Type 0
 SlotsPass kinds counted count page =
     (n : ℕ) → n < count → slot_check kinds counted (slot_start kinds n) page ≡ Ok tt
+
+-- outside of its changed bytes a page says the same numbers
+abbrev pub SaysSameOutside : Span → List ℕ → List ℕ → Type 0
+SaysSameOutside span before after =
+    (n k : ℕ) → k + n ≤ PAGE_SIZE → (k + n ≤ span.from) ⊎ (span.to ≤ k)
+    → field n k after ≡ field n k before
+
+-- a slot of a page lies outside of its changed bytes
+abbrev pub LiesOutside : List Kind → Span → ℕ → Type 0
+LiesOutside kinds span n =
+    (slot_start kinds n + slot_size (kinds_width kinds) ≤ span.from) ⊎ (span.to ≤ slot_start kinds n)
+
+-- A slot that lies outside of the changed bytes passes its check, and has the key that it had.
+abbrev pub SlotStays : List Kind → ℕ → Span → ℕ → List ℕ → List ℕ → Type 0
+SlotStays kinds counted span n before page =
+    LiesOutside kinds span n
+    → (slot_check kinds counted (slot_start kinds n) page ≡ Ok tt)
+    × (key_on kinds n page ≡ key_before kinds n before)
+
+-- So it is with each slot of a page.
+abbrev pub SlotsStay : List Kind → ℕ → Span → List ℕ → List ℕ → Type 0
+SlotsStay kinds counted span before page =
+    (n : ℕ) → n < slots_of_kinds kinds → SlotStays kinds counted span n before page
 
 -- Each key leads to the place that has it, and each place is led to by its key: so no key stands
 -- twice.

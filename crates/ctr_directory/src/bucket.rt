@@ -5,12 +5,16 @@ ghost use Rattle.ctr_page.specs.declared.checks.Chain.TheVariants.{Rows};
 ghost use Rattle.ctr_page.specs.declared.table.TheConstants.{PAGE_SIZE};
 ghost use Rattle.ctr_page.specs.Reading.{header_in};
 ghost use Rattle.ctr_directory.specs.Chains.{kinds_kept, checks_of, keys_in, BucketSaid, IsRememberedBucket, IsRemembered, RowPagePasses, Knows, ChangesPage};
+ghost use Rattle.ctr_directory.specs.declared.slots.Span.{Span as AnySpan};
 ghost use Rattle.ctr_directory.specs.Keys.{KeysLead};
 
 use crate::remembered::Remembered;
-use crate::slots::renew;
+use crate::slots::{Span, renew};
 use ctr_page::{Chain, EntryState, Place, check_entry, check_header, read_entry, read_header};
 use ctr_rec::{Kind, PageNo};
+
+/// The bytes of a page that is new.
+const WHOLE: Span = Span { from: 0, to: 4096 };
 
 fn same_kinds(a: &[Kind], b: &[Kind]) -> bool
     ensures { result ≡ true → a.now ≡ b.now }
@@ -138,6 +142,7 @@ impl Remembered {
             number,
             &self.kinds[..self.count],
             counted,
+            WHOLE,
             &[],
             page,
         ) {
@@ -225,11 +230,18 @@ impl Remembered {
     }
 
     // A page of the chain has other bytes, which pass, and leads on as it did.
-    fn renew_page(&mut self, number: PageNo, counted: u32, before: &[u8], page: &[u8]) -> bool
+    fn renew_page(
+        &mut self,
+        number: PageNo,
+        span: Span,
+        counted: u32,
+        before: &[u8],
+        page: &[u8],
+    ) -> bool
         requires some { 4 ≤ counted }
         requires whole { (length before.now ≡ PAGE_SIZE) × (length page.now ≡ PAGE_SIZE) }
         requires there { contains nat_eq self.old.pages number ≡ true }
-        ensures { (a b : ℕ → List ℕ) (first : ℕ) → ChangesPage number before.now page.now a b → result ≡ true
+        ensures { (a b : ℕ → List ℕ) (first : ℕ) → ChangesPage number span before.now page.now a b → result ≡ true
             → BucketSaid counted self.old.entry self.old.bucket (b (1 + self.old.entry / 16)) (kinds_kept self.old) self.old.first
             → IsRememberedBucket counted a (record self.old { first = first }) → IsRememberedBucket counted b self.new }
     {
@@ -240,7 +252,7 @@ impl Remembered {
             return false;
         }
         let kinds = &self.kinds[..self.count];
-        match renew(&mut self.places, number, kinds, counted, before, page) {
+        match renew(&mut self.places, number, kinds, counted, span, before, page) {
             Ok(()) => true,
             Err(_) => false,
         }
@@ -250,7 +262,7 @@ impl Remembered {
     fn reread_at(&mut self, number: PageNo, counted: u32, page: &[u8]) -> bool
         requires some { 4 ≤ counted }
         requires whole { length page.now ≡ PAGE_SIZE }
-        ensures said { (before : List ℕ) (a b : ℕ → List ℕ) → ChangesPage number before page.now a b → result ≡ true
+        ensures said { (span : AnySpan) (before : List ℕ) (a b : ℕ → List ℕ) → ChangesPage number span before page.now a b → result ≡ true
             → BucketSaid counted self.old.entry self.old.bucket (a (1 + self.old.entry / 16)) (kinds_kept self.old) self.old.first
             → BucketSaid counted self.old.entry self.old.bucket (b (1 + self.old.entry / 16)) (kinds_kept self.old) self.new.first }
         ensures same { self.new ≡ record self.old { first = self.new.first } }
@@ -261,30 +273,30 @@ impl Remembered {
         self.reread(counted, page)
     }
 
-    fn keep(&mut self, number: PageNo, counted: u32, before: &[u8], page: &[u8]) -> bool
+    fn keep(&mut self, number: PageNo, span: Span, counted: u32, before: &[u8], page: &[u8]) -> bool
         requires some { 4 ≤ counted }
         requires whole { (length before.now ≡ PAGE_SIZE) × (length page.now ≡ PAGE_SIZE) }
-        ensures { (a b : ℕ → List ℕ) → ChangesPage number before.now page.now a b → result ≡ true → IsRememberedBucket counted a self.old → IsRememberedBucket counted b self.new }
+        ensures { (a b : ℕ → List ℕ) → ChangesPage number span before.now page.now a b → result ≡ true → IsRememberedBucket counted a self.old → IsRememberedBucket counted b self.new }
     {
         if !self.reread_at(number, counted, page) {
             return false;
         }
         if self.pages.contains(&number) {
-            return self.renew_page(number, counted, before, page);
+            return self.renew_page(number, span, counted, before, page);
         }
         true
     }
 
     /// A page has other bytes. Where what is remembered isn't exact any more, it is forgotten.
-    pub fn changed(&mut self, number: PageNo, counted: u32, before: &[u8], page: &[u8])
+    pub fn changed(&mut self, number: PageNo, span: Span, counted: u32, before: &[u8], page: &[u8])
         requires some { 4 ≤ counted }
         requires whole { (length before.now ≡ PAGE_SIZE) × (length page.now ≡ PAGE_SIZE) }
-        ensures { (a b : ℕ → List ℕ) → ChangesPage number before.now page.now a b → IsRemembered counted a self.old → IsRemembered counted b self.new }
+        ensures { (a b : ℕ → List ℕ) → ChangesPage number span before.now page.now a b → IsRemembered counted a self.old → IsRemembered counted b self.new }
     {
         if !self.known {
             return;
         }
-        if !self.keep(number, counted, before, page) {
+        if !self.keep(number, span, counted, before, page) {
             self.forget();
         }
     }

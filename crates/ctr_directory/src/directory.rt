@@ -1,11 +1,12 @@
 // What is remembered of all buckets.
-ghost use Rattle.std.specs.Prelude.{◌≡◌, ◌≤◌, ◌<◌, ◌+◌, ◌/◌, ℕ, ℤ, List, length, IfSome, vec_len};
+ghost use Rattle.std.specs.Prelude.{◌≡◌, ◌≤◌, ◌<◌, ◌+◌, ◌/◌, ℕ, ℤ, List, length, IfSome, true, vec_len};
 ghost use Rattle.ctr_page.specs.declared.table.TheConstants.{PAGE_SIZE};
 ghost use Rattle.ctr_page.specs.Places.{bucket_of as bucket_by};
 ghost use Rattle.ctr_directory.specs.Exact.{IsExact};
 ghost use Rattle.ctr_directory.specs.Chains.{IsRemembered, Knows, ChangesPage};
 
 use crate::remembered::Remembered;
+use crate::slots::Span;
 use ctr_page::{Place, bucket_of};
 use ctr_rec::PageNo;
 use std::alloc::Global;
@@ -19,6 +20,7 @@ pub const MOST_KEYS: usize = 1 << 20;
 /// What is remembered of the buckets of tables. It is exact where it says anything.
 #[derive(Drop)]
 pub struct Directory {
+    /// By their numbers, up to the last one that was asked for.
     pub buckets: Vec<Remembered>,
 }
 
@@ -29,18 +31,31 @@ fn number_of(entry: u8, bucket: u8) -> usize
 }
 
 impl Directory {
-    /// Nothing is remembered. Where memory is refused, nothing of some buckets ever is.
+    /// Nothing is remembered. It takes no memory yet.
     pub fn new(alloc: Global) -> Directory
         ensures { (counted : ℕ) (pages : ℕ → List ℕ) → IsExact counted pages result }
     {
-        let mut buckets = Vec::new(alloc);
-        for _ in 0..BUCKETS {
-            match buckets.push(Remembered::new(alloc)) {
+        Directory {
+            buckets: Vec::new(alloc),
+        }
+    }
+
+    // Makes room for what is remembered of a bucket, by its number; false where memory is refused.
+    fn reach(&mut self, number: usize) -> bool
+        ensures there { result ≡ true → number < vec_len self.new.buckets }
+        ensures kept { (counted : ℕ) (pages : ℕ → List ℕ) → IsExact counted pages self.old → IsExact counted pages self.new }
+    {
+        let alloc = *self.buckets.allocator();
+        for _ in self.buckets.len()..BUCKETS {
+            if self.buckets.len() > number {
+                return true;
+            }
+            match self.buckets.push(Remembered::new(alloc)) {
                 Ok(()) => {}
-                Err(_) => return Directory { buckets },
+                Err(_) => return false,
             }
         }
-        Directory { buckets }
+        self.buckets.len() > number
     }
 
     /// Forgets all.
@@ -70,23 +85,23 @@ impl Directory {
         }
     }
 
-    fn change_all(&mut self, number: PageNo, counted: u32, before: &[u8], page: &[u8])
+    fn change_all(&mut self, number: PageNo, span: Span, counted: u32, before: &[u8], page: &[u8])
         requires some { 4 ≤ counted }
         requires whole { (length before.now ≡ PAGE_SIZE) × (length page.now ≡ PAGE_SIZE) }
-        ensures { (a b : ℕ → List ℕ) → ChangesPage number before.now page.now a b → IsExact counted a self.old → IsExact counted b self.new }
+        ensures { (a b : ℕ → List ℕ) → ChangesPage number span before.now page.now a b → IsExact counted a self.old → IsExact counted b self.new }
     {
         for i in 0..self.buckets.len() {
-            self.buckets[i].changed(number, counted, before, page);
+            self.buckets[i].changed(number, span, counted, before, page);
         }
     }
 
-    /// A page has other bytes. A bucket of which what is remembered isn't exact any more is forgotten.
-    pub fn changed(&mut self, number: PageNo, counted: u32, before: &[u8], page: &[u8])
+    /// A page has other bytes, of which those outside of the span are as they were. A bucket of which what is remembered isn't exact any more is forgotten.
+    pub fn changed(&mut self, number: PageNo, span: Span, counted: u32, before: &[u8], page: &[u8])
         requires some { 4 ≤ counted }
         requires whole { (length before.now ≡ PAGE_SIZE) × (length page.now ≡ PAGE_SIZE) }
-        ensures { (a b : ℕ → List ℕ) → ChangesPage number before.now page.now a b → IsExact counted a self.old → IsExact counted b self.new }
+        ensures { (a b : ℕ → List ℕ) → ChangesPage number span before.now page.now a b → IsExact counted a self.old → IsExact counted b self.new }
     {
-        self.change_all(number, counted, before, page);
+        self.change_all(number, span, counted, before, page);
         self.limit();
     }
 
@@ -108,23 +123,22 @@ impl Directory {
     }
 
     /// The page that is to be read next, so that all of a bucket's chain is remembered: the one of the catalog that has the table's
-    /// entry where nothing is yet; none where all is, or where there is no memory for it.
+    /// entry where nothing is yet; none where all is.
     pub fn wanted(&self, entry: u8, bucket: u8) -> Option<PageNo>
         requires { (entry < 32) × (bucket < 8) }
     {
         let number = number_of(entry, bucket);
-        if number >= self.buckets.len() {
-            return None;
+        if number < self.buckets.len() {
+            let found = &self.buckets[number];
+            if found.known && found.entry == entry && found.bucket == bucket {
+                return found.wanted();
+            }
         }
-        let found = &self.buckets[number];
-        if !found.known || found.entry != entry || found.bucket != bucket {
-            return Some(1 + (entry / 16) as PageNo);
-        }
-        found.wanted()
+        Some(1 + (entry / 16) as PageNo)
     }
 
-    // Whether something is remembered of a bucket.
-    fn knows(&self, entry: u8, bucket: u8) -> bool
+    /// Whether something is remembered of a bucket.
+    pub fn knows(&self, entry: u8, bucket: u8) -> bool
         requires { (entry < 32) × (bucket < 8) }
     {
         let number = number_of(entry, bucket);
@@ -143,7 +157,7 @@ impl Directory {
         ensures { (pages : ℕ → List ℕ) → pages (1 + entry / 16) ≡ page.now → IsExact counted pages self.old → IsExact counted pages self.new }
     {
         let number = number_of(entry, bucket);
-        if number >= self.buckets.len() {
+        if !self.reach(number) {
             return;
         }
         self.buckets[number].begin(entry, bucket, counted, page);

@@ -3,9 +3,12 @@
 
 mod bucket;
 mod directory;
+mod laws;
 mod remembered;
 mod slots;
 
+pub use ctr_page::{Place, bucket_of};
 pub use directory::{Directory, MOST_KEYS};
+pub use laws::growth_keeps_all;
 pub use remembered::Remembered;
-pub use slots::{Unkept, renew};
+pub use slots::{Span, Unkept, renew};

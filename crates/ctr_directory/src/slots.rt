@@ -4,7 +4,7 @@ ghost use Rattle.ctr_rec.specs.types_Kind.{Kind};
 ghost use Rattle.ctr_page.specs.declared.table.TheConstants.{PAGE_SIZE};
 ghost use Rattle.ctr_page.specs.Places.{slot_size as size_of_slot, start_of as start_place};
 ghost use Rattle.ctr_page.specs.Columns.{kinds_width as width_of_kinds};
-ghost use Rattle.ctr_directory.specs.Keys.{key_on as key_there, key_before as key_there_before, slots_of_kinds, KeysLead, with_key, over_slots, SlotsPass};
+ghost use Rattle.ctr_directory.specs.Keys.{key_on as key_there, key_before as key_there_before, slots_of_kinds, KeysLead, with_key, over_slots, SlotsPass, LiesOutside, SlotStays, SlotsStay};
 ghost use Rattle.ctr_page.specs.Columns.{slot_start};
 ghost use Rattle.ctr_page.specs.Damage.{slot_check};
 
@@ -15,6 +15,24 @@ use indexmap::IndexMap;
 /// What was read isn't remembered: memory was refused, a check failed, or a key stands twice.
 #[derive(Clone, Copy, Debug, PartialEq, Eq)]
 pub struct Unkept;
+
+/// The bytes of a page that changed: from one place up to another.
+#[derive(Clone, Copy, Debug, PartialEq, Eq)]
+pub struct Span {
+    pub from: usize,
+    pub to: usize,
+}
+
+/// Whether a slot of a page lies outside of the bytes that changed.
+fn lies_outside(kinds: &[Kind], span: Span, slot: u16) -> bool
+    requires few { length kinds.now ≤ 7 }
+    requires there { slot < slots_of_kinds kinds.now }
+    ensures { result ≡ true → LiesOutside kinds.now span slot }
+{
+    let size = slot_size(kinds_width(kinds));
+    let start = 16 + slot as usize * size;
+    start + size <= span.from || span.to <= start
+}
 
 /// The key of a slot of a page of rows, by its number; none where it isn't used.
 fn key_on(kinds: &[Kind], slot: u16, page: &[u8]) -> Option<i64>
@@ -115,12 +133,13 @@ fn set_key(
     fill_key(places, at, after)
 }
 
-/// A slot of a page changed, which is checked.
+/// A slot of a page changed, which is checked; or it lies outside of the bytes that changed.
 fn renew_slot(
     places: &mut IndexMap<i64, Place>,
     at: Place,
     kinds: &[Kind],
     counted: u32,
+    span: Span,
     before: &[u8],
     page: &[u8],
 ) -> Result<(), Unkept>
@@ -129,10 +148,13 @@ fn renew_slot(
     requires whole { length page.now ≡ PAGE_SIZE }
     requires was { length before.now ≢ 0 → length before.now ≡ PAGE_SIZE }
     requires there { at.slot < slots_of_kinds kinds.now }
-    ensures checked { OnOk result (slot_check kinds.now counted (slot_start kinds.now at.slot) page.now ≡ Ok tt) }
-    ensures leads { (keys : ℕ → ℕ → Option ℤ) → KeysLead keys places.old → keys at.page at.slot ≡ key_there_before kinds.now at.slot before.now
-        → OnOk result (KeysLead (with_key at (key_there kinds.now at.slot page.now) keys) places.new) }
+    ensures checked { SlotStays kinds.now counted span at.slot before.now page.now → OnOk result (slot_check kinds.now counted (slot_start kinds.now at.slot) page.now ≡ Ok tt) }
+    ensures leads { SlotStays kinds.now counted span at.slot before.now page.now → (keys : ℕ → ℕ → Option ℤ) → KeysLead keys places.old
+        → keys at.page at.slot ≡ key_there_before kinds.now at.slot before.now → OnOk result (KeysLead (with_key at (key_there kinds.now at.slot page.now) keys) places.new) }
 {
+    if lies_outside(kinds, span, at.slot) {
+        return Ok(());
+    }
     if check_slot(kinds, counted, at.slot, page).is_err() {
         return Err(Unkept);
     }
@@ -141,12 +163,14 @@ fn renew_slot(
     set_key(places, at, was, is)
 }
 
-/// The slots of a page changed; each is checked. Where the page has no bytes before, its slots are new.
+/// The slots of a page changed, of which those are checked that don't lie outside of the bytes that did. Where the page has no bytes
+/// before, its slots are new.
 pub fn renew(
     places: &mut IndexMap<i64, Place>,
     number: PageNo,
     kinds: &[Kind],
     counted: u32,
+    span: Span,
     before: &[u8],
     page: &[u8],
 ) -> Result<(), Unkept>
@@ -154,14 +178,15 @@ pub fn renew(
     requires few { length kinds.now ≤ 7 }
     requires whole { length page.now ≡ PAGE_SIZE }
     requires was { length before.now ≢ 0 → length before.now ≡ PAGE_SIZE }
-    ensures checked { OnOk result (SlotsPass kinds.now counted (slots_of_kinds kinds.now) page.now) }
-    ensures leads { (keys : ℕ → ℕ → Option ℤ) → KeysLead keys places.old → ((n : ℕ) → n < slots_of_kinds kinds.now → keys number n ≡ key_there_before kinds.now n before.now)
+    ensures checked { SlotsStay kinds.now counted span before.now page.now → OnOk result (SlotsPass kinds.now counted (slots_of_kinds kinds.now) page.now) }
+    ensures leads { SlotsStay kinds.now counted span before.now page.now → (keys : ℕ → ℕ → Option ℤ) → KeysLead keys places.old
+        → ((n : ℕ) → n < slots_of_kinds kinds.now → keys number n ≡ key_there_before kinds.now n before.now)
         → OnOk result (KeysLead (over_slots number (slots_of_kinds kinds.now) (λ n. key_there kinds.now n page.now) keys) places.new) }
 {
     let count = slots_on(kinds);
     for slot in 0..count {
         let at = Place { page: number, slot };
-        renew_slot(places, at, kinds, counted, before, page)?;
+        renew_slot(places, at, kinds, counted, span, before, page)?;
     }
     Ok(())
 }

@@ -16,8 +16,8 @@ one_more kinds counted n page before passes = λ m lt. ⊎_elim
 
 pub loop-slot-init : goal.loop-slot-init
 loop-slot-init c = (
-  (λ n lt. absurd (omega (arith, lt))),
-  λ keys leads was. leads_same keys (over_slots c.args.number 0 (λ n. key_on c.args.kinds.now n c.args.page.now) keys) c.args.places.now (none_yet c.args.number (λ n. key_on c.args.kinds.now n c.args.page.now) keys) leads,
+  (λ stay n lt. absurd (omega (arith, lt))),
+  λ stay keys leads was. leads_same keys (over_slots c.args.number 0 (λ n. key_on c.args.kinds.now n c.args.page.now) keys) c.args.places.now (none_yet c.args.number (λ n. key_on c.args.kinds.now n c.args.page.now) keys) leads,
 )
 
 pub loop-slot-preserved : goal.loop-slot-preserved
@@ -27,16 +27,21 @@ loop-slot-preserved c =
     let number = c.args.number in
     let e = c.in_ok-renew_slot.ensures in
     let below : slot < slots_of_kinds c.args.kinds.now = subst (λ k. slot < k) c.slots_on-count.ensures c.loop-slot-test.true in (
-      one_more c.args.kinds.now c.args.counted slot c.args.page.now c.loop-slot.invariant.0 e.checked,
-      λ keys leads was.
+      (λ stay. one_more c.args.kinds.now c.args.counted slot c.args.page.now (c.loop-slot.invariant.0 stay) (e.checked (stay slot below))),
+      λ stay keys leads was.
           let K = over_slots number slot new keys in
           let at : Place = record { page = number; slot = slot } in
           let here = next_one number slot new keys ∙ was slot below in
-          leads_same (with_key at (new slot) K) (over_slots number (slot + 1) new keys) c.renew_slot.new.places (one_slot_more number slot new keys) (e.leads K (c.loop-slot.invariant.1 keys leads was) here),
+          leads_same (with_key at (new slot) K) (over_slots number (slot + 1) new keys) c.renew_slot.new.places (one_slot_more number slot new keys) (e.leads (stay slot below) K (c.loop-slot.invariant.1 stay keys leads was) here),
     )
 
 pub returns-clause-leads : goal.returns-clause-leads
-returns-clause-leads c = λ keys leads was.
+returns-clause-leads c = λ stay keys leads was.
     let new = λ (n : ℕ). key_on c.args.kinds.now n c.args.page.now in
     let all : c.loop-slot.slot ≡ c.slots_on-count.result = omega arith in
-    subst (λ k. KeysLead (over_slots c.args.number k new keys) c.loop-slot.places) (all ∙ c.slots_on-count.ensures) (c.loop-slot.invariant.1 keys leads was)
+    subst (λ k. KeysLead (over_slots c.args.number k new keys) c.loop-slot.places) (all ∙ c.slots_on-count.ensures) (c.loop-slot.invariant.1 stay keys leads was)
+
+pub returns-clause-checked : goal.returns-clause-checked
+returns-clause-checked c = λ stay.
+    let all : c.loop-slot.slot ≡ c.slots_on-count.result = omega arith in
+    subst (λ k. SlotsPass c.args.kinds.now c.args.counted k c.args.page.now) (all ∙ c.slots_on-count.ensures) (c.loop-slot.invariant.0 stay)

@@ -1,10 +1,8 @@
-use Rattle.std.proofs.Common.{◌≡◌, false, List, sym, subst}
+use Rattle.std.proofs.Common.{List, arith, sym, subst, length}
 use Rattle.std.specs.List.{All}
-use Rattle.std.proofs.lemmas.List.Elements.{All-push}
 use Rattle.ctr_directory.specs.declared.remembered.Remembered.{Remembered}
+use Rattle.ctr_directory.specs.Chains.{IsRemembered}
 use Rattle.ctr_directory.proofs.directory.Directory.new.Goals as goal
 
-pub loop-preserved : goal.loop-preserved
-loop-preserved c =
-    let P = λ (b : Remembered). b.known ≡ false in
-    subst (λ (xs : List Remembered). All P xs) (sym c.in-Ok.ensures.items) (All-push P c.loop.buckets.items c.new.result c.loop.invariant c.new.ensures)
+pub returns : goal.returns
+returns c = λ counted pages. subst (λ (xs : List Remembered). All (IsRemembered counted pages) xs) (sym c.new.ensures.items) (λ k d lt. absurd (omega (arith, lt)))
