@@ -24,6 +24,7 @@ use Rattle.ctr_store.specs.declared.parts.Parts.{Parts}
 use Rattle.ctr_base.specs.pool_Frame.{Frame}
 use Rattle.ctr_base.specs.pool_Frames.{frame_of, change_of, since_in}
 use Rattle.ctr_store.specs.Parts.{HasBuffer, MayCount, EndsWithin, LogsRoom, record_end, pages_held, first_unsaved}
+use Rattle.ctr_base.specs.redo_States.{grown}
 use Rattle.ctr_store.proofs.RecordLaws.{record_short}
 
 -- how many bytes the frames of records have
@@ -217,3 +218,7 @@ module _ {D O : Type 0} where
   pub count_grown : {T : Type 0} (a b : Base D O) (result : Result T StoreFault) → MayCount a.root.pages → CountsMore a b result → MayCount b.root.pages
   count_grown a b (Ok x) may more = subst MayCount (sym more.1) (let least = may.0 in omega (arith, least), omega arith)
   count_grown a b (Err e) may more = subst (λ (r : Root). MayCount r.pages) (sym more.2) may
+
+-- a growth leaves no fewer pages
+pub never_less : (n : ℕ) → n ≤ 30000 → n ≤ grown n
+never_less n most = omega (arith, most)

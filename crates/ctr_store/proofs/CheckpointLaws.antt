@@ -4,8 +4,8 @@ use Rattle.std.proofs.Common.{◌≡◌, ◌⊎◌, inl, inr, ⊎_elim, ℕ, ◌
 use Rattle.std.specs.Prelude.{⊤}
 use Rattle.std.specs.List.{AllByRecursion}
 use Rattle.std.proofs.lemmas.Bool.Decides.{nat_tests}
-use Rattle.ctr_bytes.specs.Following.{◌>>=◌}
-use Rattle.ctr_bytes.specs.Fields.{field}
+use Rattle.ctr_rec.specs.bytes_Following.{◌>>=◌}
+use Rattle.ctr_rec.specs.bytes_Fields.{field}
 use Rattle.ctr_base.proofs.log_KeptLaws.{passes}
 use Rattle.ctr_rec.specs.declared.decoding.BadRecord.{BadRecord}
 use Rattle.ctr_rec.specs.declared.record.Record.{Record}

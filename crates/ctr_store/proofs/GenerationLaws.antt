@@ -1,6 +1,6 @@
 -- A generation of the log begins, and an older one goes, under pages and tables that are the fold of the log.
 use Rattle.std.specs.Prelude.{IsTrue, OnOk}
-use Rattle.std.proofs.Common.{◌≡◌, ◌↔◌, ℕ, ◌+◌, ◌-◌, ◌^◌, ◌<◌, ◌≤◌, Bool, false, Result, Ok, List, [], ◌∷◌, ◌++◌, length, map, take, drop, Option, None, Some, refl, sym, ◌∙◌, ap, subst, arith, take-append-drop}
+use Rattle.std.proofs.Common.{◌≡◌, ◌↔◌, ℕ, ◌+◌, ◌-◌, ◌^◌, ◌<◌, ◌≤◌, Bool, false, Result, Ok, Err, List, [], ◌∷◌, ◌++◌, length, map, take, drop, Option, None, Some, refl, sym, ◌∙◌, ap, subst, arith, take-append-drop}
 use Rattle.std.proofs.lemmas.List.{append-nil, take-take}
 use Rattle.ctr_disk.specs.declared.disk.Disk.{Ghosts}
 use Rattle.ctr_disk.specs.Image.{Image}
@@ -28,7 +28,8 @@ use Rattle.ctr_base.proofs.redo_Generations.{front_home}
 use Rattle.ctr_base.specs.declared.base.Base.{Base}
 use Rattle.ctr_base.specs.Base.{stored_of, now_of, home_of, MayPut, IsQuiet, IsSoundImage, StandsQuiet, backing_of}
 use Rattle.ctr_base.specs.BaseLaws.{saves_same, holds_if}
-use Rattle.ctr_base.specs.Generations.{IsCheckpoint, KeepsFold, OlderIsHome}
+use Rattle.ctr_base.specs.Generations.{IsCheckpoint, KeepsFold, NamesNewer, OlderIsHome}
+use Rattle.ctr_disk.specs.declared.fault.StoreFault.{StoreFault}
 use Rattle.ctr_store.specs.declared.parts.Parts.{Parts}
 use Rattle.ctr_base.specs.meta_Kept.{TablesKept}
 use Rattle.ctr_store.specs.Numbers.{NumbersLow}
@@ -161,6 +162,15 @@ nothing_waits log has none = sym has.spelled ∙ ap (λ (l : List Record). map r
 
 pub buffer_older : (old : Log) → HasBuffer old → HasBuffer (record old { older = false })
 buffer_older old has = record { size = has.size; most = has.most; spelled = has.spelled }
+
+-- what an older one leaves that goes, or doesn't
+pub buffer_named : {D O T : Type 0} (a b : Base D O) (r : Result T StoreFault) → NamesNewer a b r → HasBuffer a.log → HasBuffer b.log
+buffer_named a b (Ok x) names has = subst HasBuffer (sym names.log) (buffer_older a.log has)
+buffer_named {D} {O} a b (Err e) names has = subst (λ (x : Base D O). HasBuffer x.log) (sym names.still) has
+
+pub numbers_named : {D O T : Type 0} (s t : Parts D O) (r : Result T StoreFault) → NamesNewer s.base t.base r → t.meta ≡ s.meta → NumbersLow (s.base.log.first + length s.base.log.buffered) s.meta.tables → NumbersLow (t.base.log.first + length t.base.log.buffered) t.meta.tables
+numbers_named s t (Ok x) names meta low = subst (λ (k : TablesKept). NumbersLow (t.base.log.first + length t.base.log.buffered) k.tables) (sym meta) (subst (λ (l : Log). NumbersLow (l.first + length l.buffered) s.meta.tables) (sym names.log) low)
+numbers_named {D} {O} s t (Err e) names meta low = subst (λ (k : TablesKept). NumbersLow (t.base.log.first + length t.base.log.buffered) k.tables) (sym meta) (subst (λ (x : Base D O). NumbersLow (x.log.first + length x.log.buffered) s.meta.tables) (sym names.still) low)
 
 pub buffer_begun : (old new : Log) → HasBuffer old → old.buffered ≡ [] → IsStarted old new → old.room ≤ new.room → HasBuffer new
 buffer_begun old new has none started more =

@@ -1,8 +1,8 @@
 -- Where no record waits.
 use Rattle.std.proofs.Common.{◌≡◌, ℕ, ◌+◌, List, [], ◌∷◌, map, length, refl, sym, ◌∙◌, ap, arith}
 use Rattle.std.proofs.lemmas.List.{length-append}
-use Rattle.ctr_bytes.specs.Fields.{spelled}
-use Rattle.ctr_bytes.proofs.FieldLaws.{length-spelled}
+use Rattle.ctr_rec.specs.bytes_Fields.{spelled}
+use Rattle.ctr_rec.proofs.bytes_FieldLaws.{length-spelled}
 use Rattle.ctr_rec.specs.declared.record.Record.{Record}
 use Rattle.ctr_rec.specs.Spelling.{record_bytes}
 use Rattle.ctr_base.specs.log_Logs.{Log, frame, frames}

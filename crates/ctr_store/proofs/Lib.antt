@@ -11,6 +11,7 @@ pub mod RedoFinds
 pub mod SoundLaws
 pub mod OpenLaws
 pub mod StoreLaws
+mod Recalling
 mod CreateLaws
 pub mod Hardened
 mod CheckpointLaws

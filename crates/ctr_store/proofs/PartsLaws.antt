@@ -14,7 +14,7 @@ use Rattle.ctr_base.specs.meta_Effects.{effect, tables_of}
 use Rattle.ctr_base.specs.meta_Kept.{IsLogged, MayApply}
 use Rattle.ctr_base.specs.meta_Needs.{needs}
 use Rattle.ctr_base.specs.meta_Tables.{Tables, no_tables}
-use Rattle.ctr_bytes.specs.Fields.{field}
+use Rattle.ctr_rec.specs.bytes_Fields.{field}
 use Rattle.ctr_base.specs.log_Kept.{kept_log, WritesBehind, WritesBy}
 use Rattle.ctr_rec.specs.Spelling.{record_bytes}
 use Rattle.ctr_rec.proofs.ReadBack.{record_read}
@@ -38,7 +38,7 @@ use Rattle.ctr_base.specs.redo_Fitting.{LiesInside, FitsBehind, EachFits, MayFol
 use Rattle.ctr_base.proofs.redo_FitLaws.{tables_behind, tables_behind_is, each_append, none_append}
 use Rattle.ctr_store.proofs.BufferLaws.{kept_room}
 use Rattle.ctr_store.proofs.RecordLaws.{change_number}
-use Rattle.ctr_store.specs.Parts.{IsFold, AreLow, CanLog, AddsRecord, LogsRecord}
+use Rattle.ctr_store.specs.Parts.{IsFold, AreLow, MayCount, CanLog, AddsRecord, LogsRecord}
 
 -- a writer with more that waits goes on behind the same log
 pub writes_more : (older : Bool) (file first : ℕ) (log : Log) (image : Image) (more : List (List ℕ)) (room : ℕ) → WritesBy older file first log image → WritesBy older file first (record log { buffered = more; room = room }) image
@@ -347,6 +347,7 @@ module _ {D O : Type 0} (first : Image) (g : Ghosts D) where
         logged = can.logged;
         change = can.change;
         counted = subst (λ (x : Root). LiesInside x.pages (overlay_of r)) (sym root) can.counted;
+        pages = subst (λ (x : Root). MayCount x.pages) (sym root) can.pages;
         may = subst (λ m. MayApply r m) (sym meta) can.may;
         room = omega (arith, room, more);
         number = omega (arith, number, next);

@@ -15,7 +15,7 @@ use Rattle.ctr_rec.specs.Spelling.{record_bytes, form_bytes, parts_bytes, overla
 use Rattle.ctr_rec.specs.Records.{FormFits, IsRecord}
 use Rattle.ctr_rec.specs.Read.{record_in}
 use Rattle.ctr_rec.proofs.ReadBack.{record_read}
-use Rattle.ctr_bytes.specs.Fields.{field}
+use Rattle.ctr_rec.specs.bytes_Fields.{field}
 use Rattle.ctr_rec.proofs.Forms.{begins_so}
 use Rattle.ctr_rec.proofs.Laws.{length-parts}
 use Rattle.ctr_base.specs.pool_Frame.{Frame}

@@ -10,8 +10,8 @@ use Rattle.ctr_base.specs.ctr_home.declared.root.Root.{Root}
 use Rattle.ctr_disk.specs.declared.fault.StoreFault.{StoreFault}
 use Rattle.ctr_disk.specs.declared.fault.StoreFault.TheVariants as store
 use Rattle.ctr_disk.specs.Image.{Image, content}
-use Rattle.ctr_bytes.specs.Fields.{field}
-use Rattle.ctr_bytes.proofs.FieldLaws.{field-drop}
+use Rattle.ctr_rec.specs.bytes_Fields.{field}
+use Rattle.ctr_rec.proofs.bytes_FieldLaws.{field-drop}
 use Rattle.ctr_base.specs.log_Logs.{Batches, frames, batch, batches, records, AreBatches, HasLog}
 use Rattle.ctr_base.specs.log_Reading.{log_file}
 use Rattle.ctr_base.specs.log_Kept.{AreShort, log_in, kept_log, other_file, has_newer, HoldsLog, RefusesKept}

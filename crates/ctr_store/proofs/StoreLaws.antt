@@ -2,7 +2,7 @@
 use Rattle.std.proofs.Common.{◌≡◌, ⊎_elim, inl, inr, ◌∙◌, ◌<◌, ◌≤◌, ◌^◌, ◌==◌, ◌+◌, ◌-◌, if◌then◌else◌, ℕ, Option, None, Bool, true, false, List, [], ◌∷◌, length, drop, Result, Ok, Err, refl, sym, ap, subst, arith}
 use Rattle.std.specs.Prelude.{IsTrue, OnOk, OnErr, IfOk, IfErr, is_err}
 use Rattle.std.proofs.lemmas.List.{append-nil}
-use Rattle.ctr_base.specs.log_Logs.{frames}
+use Rattle.ctr_base.specs.log_Logs.{Log, frames}
 use Rattle.ctr_base.specs.pool_Over.{Pooled, SavesOldest, unchanged}
 use Rattle.ctr_disk.specs.declared.disk.Disk.{Ghosts}
 use Rattle.ctr_types.specs.Faults.{HasFault}
@@ -14,13 +14,17 @@ use Rattle.ctr_base.proofs.log_VisitLemmas.{ok_isnt}
 use Rattle.ctr_rec.specs.declared.record.Record.{Record}
 use Rattle.ctr_base.specs.meta_Needs.{needs}
 use Rattle.ctr_disk.proofs.Moments.{weaker}
+use Rattle.ctr_base.specs.declared.base.Base.{Base}
 use Rattle.ctr_base.specs.Base.{waiting_of, now_of, IsSoundImage, HasGate, LeavesBase, LeavesIf, MovesBase, MovesIf, KeepsBase}
 use Rattle.ctr_store.specs.declared.parts.Parts.{Parts}
 use Rattle.ctr_base.specs.Growth.{GrowsBase, AreBlank}
 use Rattle.ctr_base.specs.BaseLaws.{rests_leaves}
 use Rattle.ctr_base.specs.redo_States.{State, state_of, grown, page_at}
-use Rattle.ctr_store.specs.Parts.{IsFold, HasBuffer, record_end, CanLog, EndsWithin, LogsRecord, LogsRoom, pages_held, some_dirty}
+use Rattle.ctr_store.specs.Parts.{IsFold, HasBuffer, MayCount, Recalls, record_end, CanLog, EndsWithin, LogsRecord, LogsRoom, pages_held, some_dirty}
 use Rattle.ctr_store.specs.Store.{View, Logs, LeavesFront, ReachesEnd, HasLongLog, StraysOnlyLong, MovesOn, LeavesPage, MayLog, KeepsRoom, GrowsByExtent, TakesRecord, WritesHome, waiting_bytes}
+use Rattle.ctr_base.specs.Generations.{KeepsFold}
+use Rattle.ctr_directory.specs.declared.directory.Directory.{Directory}
+use Rattle.ctr_store.proofs.Recalling.{exact_same}
 use Rattle.ctr_store.specs.Numbers.{NumbersLow}
 use Rattle.ctr_store.specs.StoreInside.{view_of}
 use Rattle.ctr_store.proofs.NumberLaws.{numbers_fit}
@@ -74,8 +78,8 @@ module _ {D O : Type 0} (g : Ghosts D) where
   rests_seen first only_now s b has fold sound = front_seen s s b b has (rests_leaves g first only_now s.base fold.over.at_rest sound)
 
   -- what callers see is enough for a record
-  pub can_of : (r : Record) (s : Parts D O) (b : Bool) → HasBuffer s.base.log → NumbersLow (s.base.log.first + length s.base.log.buffered) s.meta.tables → MayLog r (view_of g s b) → needs r s.meta.tables ≡ Ok tt → CanLog r s
-  can_of r s b buffer numbers may fits =
+  pub can_of : (r : Record) (s : Parts D O) (b : Bool) → HasBuffer s.base.log → MayCount s.base.root.pages → NumbersLow (s.base.log.first + length s.base.log.buffered) s.meta.tables → MayLog r (view_of g s b) → needs r s.meta.tables ≡ Ok tt → CanLog r s
+  can_of r s b buffer pages numbers may fits =
       let room = may.room in
       let size = buffer.size in
       let number = may.number in
@@ -87,6 +91,7 @@ module _ {D O : Type 0} (g : Ghosts D) where
         logged = may.logged;
         change = may.change;
         counted = may.counted;
+        pages = pages;
         may = record { fits = fits; opens_fit = may.opens; items_fit = may.items; numbers_fit = numbers_fit r xids heads s.meta.tables less low numbers.0 };
         room = omega (arith, room, size, record_short r may.logged.record_is may.change);
         number = may.number;
@@ -101,6 +106,17 @@ module _ {D O : Type 0} (g : Ghosts D) where
     meta = meta;
     counted = ap (λ (r : Root). r.pages) keeps.root;
   }
+
+  -- what is remembered of the keys' places, over the same pages
+  pub recalls_moved : (first : Image) (s t : Parts D O) (d : Directory) → MovesIf first g s.base t.base → IsSoundImage first → Recalls g s d → Recalls g t d
+  recalls_moved first s t d moves sound exact = exact_same (state_of (now_of g s.base)) (state_of (now_of g t.base)) d (moves sound).now exact
+
+  pub recalls_kept : (s t : Parts D O) (d : Directory) → KeepsFold g s.base t.base → Recalls g s d → Recalls g t d
+  recalls_kept s t d keeps exact = exact_same (state_of (now_of g s.base)) (state_of (now_of g t.base)) d keeps.now exact
+
+  pub recalls_reserved : (s : Parts D O) (l : Log) (d : Directory) → l ≡ record s.base.log { room = l.room } → Recalls g s d → Recalls g (record s { base = record s.base { log = l } }) d
+  recalls_reserved s l d same exact =
+      exact_same (state_of (now_of g s.base)) (state_of (now_of g (record s.base { log = l }))) d (ap (λ (x : Log). state_of (now_of g (record s.base { log = x }))) same) exact
 
   pub logs_seen : (r : Record) (s t : Parts D O) (b c : Bool) → LogsRecord g r s.base t.base → Logs (r ∷ []) (view_of g s b) (view_of g t c)
   logs_seen r s t b c logs = record { j = logs.j; waiting = logs.waiting; hardened = logs.hardened; now = logs.now }
@@ -217,3 +233,29 @@ module _ {D O : Type 0} (g : Ghosts D) where
         → LeavesPage {T = T} first g old (view_of g t (is_err r)) r
     page_left {T} (Ok x) going moves only f = subst (λ (k : Bool). LeavesPage {T = T} first g old (view_of g t k) (Ok x)) going (page_lends x x going moves f)
     page_left {T} (Err e) going moves only f = page_fails {T = T} {U = T} e only f
+
+  -- no call of the disk was made
+  keeps_none : (a : Base D O) → KeepsBase g a a
+  keeps_none a = record {
+    root = refl;
+    file = refl;
+    older = refl;
+    start = refl;
+    ends = refl;
+    goes = record { later = omega arith; stray = inl refl };
+    size = omega arith;
+    next = refl;
+    waits = inl refl;
+    stray = λ none. refl;
+  }
+
+  moves_none : (a : Base D O) → MovesBase g a a
+  moves_none a = record { j = 0; at_most = omega arith; waiting = refl; hardened = refl; now = refl; root = refl; file = refl; place = omega arith; all = refl; pages = λ q. refl }
+
+  -- no page was asked for
+  pub page_unread : {T : Type 0} (first : Image) → ((d : D) (c : Image) → g.since d (g.moment_of d) c → g.images d c) → (s : Parts D O) (b : Bool) (old : View D) → view_of g s b ≡ old → HasBuffer s.base.log → b ≡ false
+      → (IsTrue g.tells → IsFold first g s) → (x : T) → LeavesPage {T = T} first g old old (Ok x)
+  page_unread {T} first only_now s b old is has going fold x =
+      let none : HasFault {T = T} Fault (g.faults_of s.base.disk) (g.faults_of s.base.disk) (Ok x) = record { later = omega arith; failed = λ same. absurd (ok_isnt x Fault same); fine = λ other. refl } in
+      subst (λ (v : View D). LeavesPage {T = T} first g old v (Ok x)) is
+      (page_lends first s s b old is has (λ told. rests_leaves g first only_now s.base (fold told).over.at_rest) (keeps_none s.base) refl x x going (λ told sound. moves_none s.base) none)

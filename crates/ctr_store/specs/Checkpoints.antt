@@ -1,6 +1,6 @@
 -- The Checkpoint that begins a generation of the log, by the tables.
 use Rattle.std.specs.Prelude.{◌≡◌, ℕ, ◌+◌, ◌*◌, ◌^◌, List, [], ◌∷◌, length, Result, Ok, Err, ⊤}
-use Rattle.ctr_bytes.specs.Following.{◌>>=◌}
+use Rattle.ctr_rec.specs.bytes_Following.{◌>>=◌}
 use Rattle.ctr_rec.specs.declared.decoding.BadRecord.{BadRecord}
 use Rattle.ctr_rec.specs.Damage.{at_most}
 use Rattle.ctr_rec.specs.Spelling.{checkpoint_bytes}

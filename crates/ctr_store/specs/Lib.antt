@@ -22,3 +22,5 @@ pub use Rattle.ctr_base.specs.meta_Needs as meta_Needs
 pub use Rattle.ctr_rec.specs.Damage as rec_Damage
 pub use Rattle.ctr_rec.specs.declared.decoding.BadRecord as rec_BadRecord
 pub use Rattle.ctr_base.specs.declared.growing.TheConstants as base_growing_TheConstants
+pub use Rattle.ctr_directory.specs.Chains as directory_Chains
+pub use Rattle.ctr_directory.specs.Keys as directory_Keys

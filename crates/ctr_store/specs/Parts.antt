@@ -16,11 +16,13 @@ use Rattle.ctr_base.specs.pool_Frame.{Frame}
 use Rattle.ctr_base.specs.pool_Frames.{frame_of, page_shown, since_in}
 use Rattle.ctr_base.specs.pool_Over.{IsOver, ShowsSamePages}
 use Rattle.ctr_base.specs.redo_Overlaid.{overlay_of, overlaid}
-use Rattle.ctr_base.specs.redo_States.{state_of, step, steps}
+use Rattle.ctr_base.specs.redo_States.{State, state_of, step, steps, page_at}
 use Rattle.ctr_base.specs.declared.base.Base.{Base}
 use Rattle.ctr_base.specs.declared.growing.TheConstants.{EXTENT, MOST_PAGES}
 use Rattle.ctr_base.specs.Base.{stored_of, waiting_of, now_of, home_of, IsSoundImage, MovesIf, GoesOnTo, backing_of}
 use Rattle.ctr_base.specs.redo_Fitting.{LiesInside}
+use Rattle.ctr_directory.specs.declared.directory.Directory.{Directory}
+use Rattle.ctr_directory.specs.Exact.{IsExact}
 use Rattle.ctr_store.specs.Changes.{IsChange}
 use Rattle.ctr_store.specs.declared.opening.TheConstants.{BUFFER_BYTES}
 use Rattle.ctr_store.specs.declared.parts.Parts.{Parts}
@@ -88,6 +90,15 @@ home_at g p s =
 abbrev pub MayCount : ℕ → Type 0
 MayCount n = (EXTENT ≤ n) × (n ≤ MOST_PAGES)
 
+-- what is remembered of the keys' places is exact over the pages of a state
+abbrev pub IsExactOver : State → Directory → Type 0
+IsExactOver x d = IsExact x.counted (λ p. page_at p x.pages) d
+
+-- what is remembered of the keys' places is exact over the pages of a store's parts, with all
+-- records
+abbrev pub Recalls : {D O : Type 0} → Ghosts D → Parts D O → Directory → Type 0
+Recalls g s d = IsExactOver (state_of (now_of g s.base)) d
+
 -- A page came into a frame: below the pool the first of what waited became durable, or a page went
 -- home; over that each page is as it was.
 pub record BringsOver {D O : Type 0} (first : Image) (g : Ghosts D) (s t : Parts D O) : Type 0 where
@@ -95,13 +106,14 @@ pub record BringsOver {D O : Type 0} (first : Image) (g : Ghosts D) (s t : Parts
   pub shows : ShowsSamePages (backing_of first g) s.pool.frames s.base t.pool.frames t.base
   pub over : IsOver (backing_of first g) t.pool.frames t.base
 
--- A record can be logged: it is one and no Checkpoint, its overlay lies on a counted page, the
--- tables meet its needs and have room for what it adds; and there is room for its bytes and its
--- number.
+-- A record can be logged: it is one and no Checkpoint, its overlay lies on a counted page, of
+-- which there are as many as may be, the tables meet its needs and have room for what it adds; and
+-- there is room for its bytes and its number.
 pub record CanLog {D O : Type 0} (r : Record) (s : Parts D O) : Type 0 where
   pub logged : IsLogged r
   pub change : IsChange r
   pub counted : LiesInside s.base.root.pages (overlay_of r)
+  pub pages : MayCount s.base.root.pages
   pub may : MayApply r s.meta
   pub room : 8 + length (record_bytes r) ≤ s.base.log.room
   pub number : s.base.log.first + length s.base.log.buffered < 2 ^ 63 - 1

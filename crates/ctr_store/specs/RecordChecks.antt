@@ -9,7 +9,7 @@ use Rattle.ctr_base.specs.ctr_home.declared.root.Root.{Root}
 use Rattle.ctr_base.specs.ctr_home.declared.block.Block.TheVariants.{Root as RootBlock}
 use Rattle.ctr_base.specs.ctr_home.Blocks.{value_of}
 use Rattle.ctr_base.specs.ctr_home.Roots.{SaysRoot}
-use Rattle.ctr_bytes.specs.Fields.{field}
+use Rattle.ctr_rec.specs.bytes_Fields.{field}
 use Rattle.ctr_base.specs.log_Visit.{Visit}
 use Rattle.ctr_base.specs.log_ReadError.{ReadError}
 use Rattle.ctr_base.specs.log_ReadError.TheVariants.{Store, OutOfMemory}

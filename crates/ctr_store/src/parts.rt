@@ -3,7 +3,8 @@ ghost use Rattle.std.specs.Prelude.{◌≡◌, ◌<◌, ◌+◌, true, false, Is
 ghost use Rattle.ctr_types.specs.Faults.{HasFault};
 ghost use Rattle.ctr_disk.specs.declared.fault.StoreFault.TheVariants.{Fault};
 ghost use Rattle.ctr_base.specs.redo_Overlaid.{overlay_of};
-ghost use Rattle.ctr_base.specs.pool_Frames.{has_page};
+ghost use Rattle.ctr_base.specs.pool_Frame.{Frame as Framed};
+ghost use Rattle.ctr_base.specs.pool_Frames.{has_page, frame_of, after_change};
 ghost use Rattle.ctr_base.specs.redo_States.{page_limit, page_at, state_of, grown};
 ghost use Rattle.ctr_base.specs.declared.growing.TheConstants.{MOST_PAGES};
 ghost use Rattle.ctr_base.specs.Growth.{LeavesGrown, GrowsBase, CountsMore, AreBlank};
@@ -17,11 +18,12 @@ ghost use Rattle.ctr_base.specs.meta_Needs.{needs};
 ghost use Rattle.ctr_store.specs.RecordChecks.{record_damage};
 ghost use Rattle.ctr_base.specs.ctr_home.Reading.{IsFaultOr};
 ghost use Rattle.ctr_store.specs.PageChecks.{IsHighFrame, FindsPage};
-ghost use Rattle.ctr_store.specs.Parts.{IsFold, BringsOver, IsLowFrame, AreLow, CanLog, AddsRecord, LogsRecord, LogsRoom};
+ghost use Rattle.ctr_store.specs.Parts.{IsFold, BringsOver, IsLowFrame, AreLow, CanLog, AddsRecord, LogsRecord, LogsRoom, Recalls};
 
 use crate::seen::damage_at;
-use crate::spelling::{append_record, overlay_of};
+use crate::spelling::{append_record, overlay_of, span_of};
 use ctr_base::{Base, Lsn, Meta, Origin, Pool};
+use ctr_directory::Directory;
 use ctr_disk::{Disk, StoreFault};
 use ctr_rec::{Overlay, PageNo, Record};
 use ctr_types::{Damage, File};
@@ -100,6 +102,7 @@ impl<D: Disk, O: Origin> Parts<D, O> {
         ensures shown { WhereSound O.first D.Disk (IsFold O.first D.Disk self.now → has_page page self.now.pool.frames ≡ true → page < page_limit
             → result.now ≡ page_at page (state_of (now_of D.Disk self.now.base)).pages) }
         ensures whole { has_page page self.now.pool.frames ≡ true → length result.now ≡ 4096 }
+        ensures held { (f : Framed) → frame_of page self.now.pool.frames ≡ Some f → result.now ≡ f.body }
     {
         self.pool.bytes(page)
     }
@@ -189,6 +192,7 @@ impl<D: Disk, O: Origin> Parts<D, O> {
         ensures adds { WhereTold D.Disk (IsFold O.first D.Disk self.old → IsSoundImage O.first → AddsRecord D.Disk rec.now self.old self.new) }
         ensures fold { WhereTold D.Disk (IsFold O.first D.Disk self.old → IsFold O.first D.Disk self.new) }
         ensures room { LogsRoom D.Disk rec.now self.old self.new }
+        ensures laid { (f : Framed) → frame_of overlay.now.page self.old.pool.frames ≡ Some f → frame_of overlay.now.page self.new.pool.frames ≡ Some (after_change overlay.now result f) }
     {
         let lsn = append_record(&mut self.base.log, rec);
         self.pool.change(overlay.page, overlay, lsn);
@@ -196,12 +200,36 @@ impl<D: Disk, O: Origin> Parts<D, O> {
         lsn
     }
 
-    /// Adds a record that can be logged, and answers its number. It waits in the log's buffer.
-    pub fn log(&mut self, rec: &Record) -> Result<Lsn, StoreFault>
+    // The same, and what is remembered of the page goes with it.
+    fn log_remembered(&mut self, rec: &Record, overlay: &Overlay, directory: &mut Directory) -> Lsn
+        requires can { CanLog rec.now self.old }
+        requires on { overlay_of rec.now ≡ Some overlay.now }
+        requires there { (has_page overlay.now.page self.old.pool.frames ≡ true) × IsLowFrame overlay.now.page self.old }
+        ensures number { result ≡ self.old.base.log.first + length self.old.base.log.buffered }
+        ensures below { self.new.base.disk ≡ self.old.base.disk }
+        ensures adds { WhereTold D.Disk (IsFold O.first D.Disk self.old → IsSoundImage O.first → AddsRecord D.Disk rec.now self.old self.new) }
+        ensures fold { WhereTold D.Disk (IsFold O.first D.Disk self.old → IsFold O.first D.Disk self.new) }
+        ensures room { LogsRoom D.Disk rec.now self.old self.new }
+        ensures exact { WhereSound O.first D.Disk (IsFold O.first D.Disk self.old → Recalls D.Disk self.old directory.old → Recalls D.Disk self.new directory.new) }
+    {
+        let counted = self.base.root.pages;
+        let span = span_of(overlay);
+        let mut before = [0; 4096];
+        before.copy_from_slice(self.bytes(overlay.page));
+        let lsn = self.log_on(rec, overlay);
+        let after = self.bytes(overlay.page);
+        directory.changed(overlay.page, span, counted, &before, after);
+        lsn
+    }
+
+    /// Adds a record that can be logged, and answers its number. It waits in the log's buffer. What is remembered of the
+    /// places of keys goes with it.
+    pub fn log(&mut self, rec: &Record, directory: &mut Directory) -> Result<Lsn, StoreFault>
         requires fold { IsTrue D.tells → IsFold O.first D.Disk self.old }
         requires can { CanLog rec.now self.old }
         ensures goes { WhereTold D.Disk (LeavesIf O.first D.Disk self.old.base self.new.base) }
-        ensures logs { WhereTold D.Disk (OnOk result ((IsSoundImage O.first → LogsRecord D.Disk rec.now self.old.base self.new.base) × IsFold O.first D.Disk self.new)) }
+        ensures logs { WhereTold D.Disk (OnOk result ((IsSoundImage O.first → LogsRecord D.Disk rec.now self.old.base self.new.base) × IsFold O.first D.Disk self.new
+            × (IsSoundImage O.first → Recalls D.Disk self.old directory.old → Recalls D.Disk self.new directory.new))) }
         ensures takes { IfOk result (λ lsn. (lsn ≡ self.old.base.log.first + length self.old.base.log.buffered) × LogsRoom D.Disk rec.now self.old self.new) }
         ensures keeps { OnErr result (KeepsBase D.Disk self.old.base self.new.base × (self.new.meta ≡ self.old.meta)) }
         ensures refused { WhereTold D.Disk (IfErr result (λ e. IsSoundImage O.first → e ≡ Fault)) }
@@ -211,6 +239,6 @@ impl<D: Disk, O: Origin> Parts<D, O> {
             return Ok(self.log_off(rec));
         };
         self.bring(overlay.page)?;
-        Ok(self.log_on(rec, &overlay))
+        Ok(self.log_remembered(rec, &overlay, directory))
     }
 }

@@ -1,6 +1,6 @@
 // A visitor of a log that checks each record and lays it into the tables.
 ghost use Rattle.std.specs.Prelude.{◌≡◌, ◌<◌, ◌+◌, ◌^◌, MatchResult, [], ◌∷◌, ◌++◌, Ok, IsTrue, IfErr, OnOk, OnErr};
-ghost use Rattle.ctr_bytes.specs.Fields.{field};
+ghost use Rattle.ctr_rec.specs.bytes_Fields.{field};
 ghost use Rattle.ctr_base.specs.redo_Overlaid.{overlay_of};
 ghost use Rattle.ctr_disk.specs.declared.fault.StoreFault.TheVariants.{Damaged};
 ghost use Rattle.ctr_base.specs.log_ReadError.TheVariants.{Store, OutOfMemory as NoMemory};
@@ -10,9 +10,8 @@ ghost use Rattle.ctr_store.specs.Numbers.{HeadsWithin};
 
 use crate::spelling::overlay_of;
 use ctr_base::{Lsn, Meta, Origin, ReadError, Visit, Visitor, room_for};
-use ctr_bytes::get_u8;
 use ctr_disk::{Disk, StoreFault};
-use ctr_rec::{BadRecord, Record, decode, expect};
+use ctr_rec::{BadRecord, Record, decode, expect, get_u8};
 use ctr_types::{Damage, File, List, Text};
 use std::alloc::Global;
 use std::marker::{Model, PhantomData};

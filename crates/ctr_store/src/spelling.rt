@@ -1,11 +1,14 @@
 // Records as they go into the log.
-ghost use Rattle.std.specs.Prelude.{◌≡◌, ◌≤◌, ◌<◌, ◌+◌, ◌-◌, ◌^◌, ◌++◌, [], ◌∷◌, length};
+ghost use Rattle.std.specs.Prelude.{◌≡◌, ◌≤◌, ◌<◌, ◌+◌, ◌-◌, ◌^◌, ◌++◌, [], ◌∷◌, length, List, ℕ};
 ghost use Rattle.ctr_rec.specs.Records.{IsRecord};
 ghost use Rattle.ctr_rec.specs.Spelling.{record_bytes};
 ghost use Rattle.ctr_base.specs.redo_Overlaid.{overlay_of};
+ghost use Rattle.ctr_base.specs.pool_Pages.{overlaid_by};
+ghost use Rattle.ctr_directory.specs.Keys.{SaysSameOutside};
 ghost use Rattle.ctr_store.specs.Changes.{IsChange};
 
 use ctr_base::{LogFile, Lsn};
+use ctr_directory::Span;
 use ctr_rec::{Form, Overlay, Record, encode, to_form};
 
 /// How many bytes a record has at most that is no Checkpoint: its number, two fields, and an overlay of a page.
@@ -19,6 +22,19 @@ pub fn overlay_of<'a>(rec: &'a Record) -> Option<Overlay<'a>>
         Form::Lists { .. } => None,
         Form::Fields(parts) => parts.overlay,
     }
+}
+
+/// The bytes of its page that an overlay changes.
+pub fn span_of(overlay: &Overlay) -> Span
+    requires { overlay.now.offset + length overlay.now.bytes ≤ 4096 }
+    ensures { (body : List ℕ) → length body ≡ 4096 → SaysSameOutside result body (overlaid_by overlay.now body) }
+{
+    if overlay.clear {
+        return Span { from: 0, to: 4096 };
+    }
+    let from = overlay.offset as usize;
+    let to = from + overlay.bytes.as_slice().len();
+    Span { from, to }
 }
 
 /// Adds a record that is no Checkpoint to the log's buffer. It takes no memory.

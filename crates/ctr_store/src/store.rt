@@ -1,5 +1,5 @@
 // The store: pages and tables are the fold of the log, at every moment.
-ghost use Rattle.std.specs.Prelude.{◌≡◌, ◌≤◌, ◌<◌, ◌+◌, ◌-◌, ◌^◌, ◌↔◌, nat_lt, IsTrue, true, false, [], ◌∷◌, Ok, Err, length, IfOk, IfErr, OnOk, OnErr};
+ghost use Rattle.std.specs.Prelude.{◌≡◌, ◌≤◌, ◌<◌, ◌+◌, ◌-◌, ◌^◌, ◌↔◌, nat_lt, IsTrue, true, false, [], ◌∷◌, Ok, Err, length, IfOk, IfErr, OnOk, OnErr, IfSome};
 ghost use Rattle.ctr_types.specs.Faults.{HasFault};
 ghost use Rattle.ctr_disk.specs.declared.fault.StoreFault.TheVariants.{Fault};
 ghost use Rattle.ctr_base.specs.meta_Kept.{RoomLeft};
@@ -21,12 +21,15 @@ ghost use Rattle.ctr_store.specs.declared.store.Generation.TheVariants.{Begun};
 ghost use Rattle.ctr_store.specs.Checkpoints.{checkpoint_need};
 ghost use Rattle.ctr_store.specs.Generations.{IsDue, MayBegin, AnswersBegin, ShowsSame, AddsCheckpoint, RefusesCheckpoint, CanEnd, AnswersEnd, NamesCurrent};
 ghost use Rattle.ctr_store.specs.StoreOpening.{AnswersStore, IsOpened, store_left};
+ghost use Rattle.ctr_directory.specs.Chains.{Knows};
+ghost use Rattle.ctr_directory.specs.page_Places.{bucket_of as bucket_by};
 
 use crate::checkpoint::{FIRST_PLACE, Unmade, file_behind, spell_checkpoint};
 use crate::opening::BUFFER_BYTES;
 use crate::parts::Parts;
 use crate::seen::damage_at;
 use ctr_base::{Lsn, Meta, OpenError, Origin};
+use ctr_directory::{Directory, Place, bucket_of, growth_keeps_all};
 use ctr_disk::{Disk, StoreFault};
 use ctr_rec::{PageNo, Record};
 use ctr_types::OutOfMemory;
@@ -55,6 +58,8 @@ pub struct Store<D: Disk, O: Origin> {
     parts: Parts<D, O>,
     // a call was answered an error
     stopped: bool,
+    // where the keys of tables stand, as it is remembered of pages that were read
+    directory: Directory,
 }
 
 impl<D: Disk, O: Origin> Model for Store<D, O> {
@@ -91,6 +96,7 @@ impl<D: Disk, O: Origin> Store<D, O> {
             Ok(parts) => Ok(Store {
                 parts,
                 stopped: false,
+                directory: Directory::new(alloc),
             }),
             Err(error) => Err(error),
         }
@@ -111,6 +117,45 @@ impl<D: Disk, O: Origin> Store<D, O> {
             }
         }
         Ok(self.parts.bytes(page))
+    }
+
+    /// Reads one page more of those by which all keys of a key's bucket are remembered: the page of the catalog that has the table's
+    /// entry, or the next one of the bucket's chain. It answers false where none is left, or where they can't be remembered.
+    pub fn read_on(&mut self, entry: u8, key: i64) -> Result<bool, StoreFault>
+        requires going { self.old.stopped ≡ false }
+        requires there { entry < 32 }
+        ensures leaves { LeavesPage O.first D.Disk self.old self.new result }
+    {
+        let bucket = bucket_of(key);
+        let Some(page) = self.directory.wanted(entry, bucket) else {
+            return Ok(false);
+        };
+        match self.parts.bring(page) {
+            Ok(()) => {}
+            Err(fault) => {
+                self.stopped = true;
+                return Err(fault);
+            }
+        }
+        let counted = self.parts.base.root.pages;
+        let bytes = self.parts.bytes(page);
+        self.directory.read(entry, bucket, page, counted, bytes);
+        Ok(self.directory.knows(entry, bucket))
+    }
+
+    /// The place of a key of a table, or that no slot of its bucket has it, where all pages of that are remembered.
+    pub fn recall(&self, entry: u8, key: i64) -> Option<Option<Place>>
+        requires { entry < 32 }
+        ensures knows { WhereSound O.first D.Disk (self.now.stopped ≡ false → IfSome result (Knows self.now.now.counted (λ p. page_at p self.now.now.pages) entry (bucket_by key) key)) }
+        ensures inside { IfSome result (λ found. IfSome found (λ at. at.page < self.now.now.counted)) }
+    {
+        let found = self.directory.find(entry, key)?;
+        if let Some(at) = found {
+            if at.page >= self.parts.base.root.pages {
+                return None;
+            }
+        }
+        Some(found)
     }
 
     /// Where the home begins in the file of pages whose value a page is. It is the first home where none is open, where the page
@@ -239,7 +284,7 @@ impl<D: Disk, O: Origin> Store<D, O> {
             Ok(()) => {}
             Err(fault) => return Err(fault),
         }
-        let logged = self.parts.log(rec);
+        let logged = self.parts.log(rec, &mut self.directory);
         self.stopped = logged.is_err();
         logged
     }
@@ -282,6 +327,7 @@ impl<D: Disk, O: Origin> Store<D, O> {
         ensures refused { OnErr result (result ≡ Err Fault) }
         ensures faults { HasFault Fault (D.faults_of self.old.disk) (D.faults_of self.new.disk) result }
     {
+        growth_keeps_all();
         let counted = self.parts.grow();
         self.stopped = counted.is_err();
         counted
@@ -374,7 +420,11 @@ impl<D: Disk, O: Origin> Store<D, O> {
     pub fn into_disk(self) -> D
         ensures { result ≡ self.disk }
     {
-        let Store { parts, stopped: _ } = self;
+        let Store {
+            parts,
+            stopped: _,
+            directory: _,
+        } = self;
         parts.into_disk()
     }
 }

@@ -9,7 +9,7 @@ use Rattle.ctr_store.specs.Parts.{MayCount}
 use Rattle.ctr_store.specs.Store.{View, LeavesFront}
 use Rattle.ctr_store.specs.StoreInside.{view_of}
 use Rattle.ctr_store.specs.Generations.{ShowsSame, AddsCheckpoint}
-use Rattle.ctr_store.proofs.StoreLaws.{front_seen}
+use Rattle.ctr_store.proofs.StoreLaws.{front_seen, recalls_reserved, recalls_kept}
 use Rattle.ctr_store.proofs.GenerationLaws.{nothing_waits, ok_of, still_leaves, still_shows, same_shown, view_room, buffer_room, fold_reserved, numbers_room, buffer_begun, numbers_begun, adds_seen}
 use Rattle.ctr_store.proofs.store.Store.begin_checkpoint.Given.{Over}
 use Rattle.ctr_store.proofs.store.Store.begin_checkpoint.Goals.{After-spell_checkpoint, After-begin_generation-begun}
@@ -47,6 +47,7 @@ invariant_of-self g c =
     let e = c.reserve.ensures in
     record {
       fold = λ told going. fold_reserved g.O.Origin.first g.D.Disk a.parts c.reserve.new.self e.same (c.self.invariant.fold told going);
+      recalls = λ told sound going. recalls_reserved g.D.Disk a.parts c.reserve.new.self a.directory e.same (c.self.invariant.recalls told sound going);
       buffer = buffer_room a.parts.base.log c.reserve.new.self e.same e.kept c.self.invariant.buffer;
       counted = c.self.invariant.counted;
       numbers = numbers_room a.parts.base.log c.reserve.new.self a.parts.meta.tables e.same c.self.invariant.numbers;
@@ -103,6 +104,9 @@ invariant_of-self-in-Ok-begun g c =
     let low = subst (λ (v : View g.row.D.Denot). v.next < 2 ^ 63 - 1) (sym c.self.view_is) c.requires.number in
     record {
       fold = λ told going. (ok_of r tt c.in-Ok-begun.is (e.switches told)).1;
+      recalls = λ told sound going.
+          let went : a.stopped ≡ false = ap (λ (v : View g.row.D.Denot). v.stopped) c.self.view_is ∙ c.requires.going in
+          recalls_kept g.D.Disk s t a.directory ((ok_of r tt c.in-Ok-begun.is (e.switches told)).0 sound) (recalls_reserved g.D.Disk a.parts l a.directory room.same (c.self.invariant.recalls told sound went));
       buffer = buffer_begun l t.base.log (buffer_room a.parts.base.log l room.same room.kept c.self.invariant.buffer) none started e.keeps.0.room;
       counted = subst (λ (x : Root). MayCount x.pages) (sym e.keeps.1) c.self.invariant.counted;
       numbers = numbers_begun g.O.Origin.first g.D.Disk s t none started e.keeps.3 (subst (λ (x : Log). x.first + length x.buffered < 2 ^ 63 - 1) (sym room.same) low) (numbers_room a.parts.base.log l a.parts.meta.tables room.same c.self.invariant.numbers);

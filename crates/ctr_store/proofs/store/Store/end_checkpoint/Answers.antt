@@ -1,12 +1,12 @@
 use Rattle.std.proofs.Common.{◌≡◌, ◌∙◌, ◌↔◌, Bool, true, false, Result, sym, ap, subst}
 use Rattle.std.specs.Prelude.{IsTrue, IfOk, OnOk}
 use Rattle.ctr_disk.specs.declared.fault.StoreFault.{StoreFault}
-use Rattle.ctr_store.specs.Parts.{HasBuffer}
+use Rattle.ctr_store.specs.Parts.{HasBuffer, MayCount}
 use Rattle.ctr_store.specs.Store.{View, LeavesFront}
 use Rattle.ctr_store.specs.StoreInside.{view_of}
 use Rattle.ctr_store.specs.Generations.{CanEnd, ShowsSame, NamesCurrent}
-use Rattle.ctr_store.proofs.StoreLaws.{front_seen}
-use Rattle.ctr_store.proofs.GenerationLaws.{ok_of, buffer_older, still_leaves, still_shows, same_shown, can_iff, names_seen}
+use Rattle.ctr_store.proofs.StoreLaws.{of_ok, front_seen, recalls_kept}
+use Rattle.ctr_store.proofs.GenerationLaws.{ok_of, buffer_older, still_leaves, still_shows, same_shown, can_iff, names_seen, buffer_named, numbers_named}
 use Rattle.ctr_store.proofs.store.Store.end_checkpoint.Goals as goal
 use Rattle.ctr_store.proofs.store.Store.end_checkpoint.Goals.{in-Ok, in-Err}
 
@@ -74,3 +74,21 @@ returns-clause-names g c told sound is =
           (names_seen g.O.Origin.first d a.parts t a.stopped k (c.self.invariant.fold told going) both.1 sound (ok_of r tt w.in-Ok.is names.first) (ok_of r tt w.in-Ok.is names.log) (ok_of r tt w.in-Ok.is (c.drop_older-dropped.ensures.records told sound)))
       | in-Err w ↦ absurd (cc (sym w.result-is ∙ is))
     ]
+
+pub invariant_of-self : goal.invariant_of-self
+invariant_of-self g c =
+    let d = g.D.Disk in
+    let s = c.self.inside.parts in
+    let t = c.drop_older-dropped.new.self in
+    let r = c.drop_older-dropped.result in
+    let e = c.drop_older-dropped.ensures in
+    let inv = c.self.invariant in
+    record {
+      fold = λ told going. (of_ok r (sym c.is_err-self-inside.ensures.value ∙ going) (e.switches told)).1;
+      recalls = λ told sound going.
+          let went : c.self.inside.stopped ≡ false = ap (λ (v : View g.row.D.Denot). v.stopped) c.self.view_is ∙ c.requires in
+          recalls_kept d s t c.self.inside.directory ((of_ok r (sym c.is_err-self-inside.ensures.value ∙ going) (e.switches told)).0 sound) (inv.recalls told sound went);
+      buffer = buffer_named s.base t.base r e.names.0 inv.buffer;
+      counted = subst MayCount (sym e.names.0.pages) inv.counted;
+      numbers = numbers_named s t r e.names.0 e.names.2 inv.numbers;
+    }

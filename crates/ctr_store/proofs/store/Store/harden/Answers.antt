@@ -5,14 +5,18 @@ use Rattle.ctr_store.specs.Store.{View, LeavesPage}
 use Rattle.ctr_store.specs.StoreInside.{view_of}
 use Rattle.ctr_store.proofs.BufferLaws.{buffer_kept, count_kept}
 use Rattle.ctr_store.proofs.NumberLaws.{numbers_kept}
-use Rattle.ctr_store.proofs.StoreLaws.{of_ok, rests_seen, page_left, sound_fault}
+use Rattle.ctr_store.proofs.StoreLaws.{of_ok, rests_seen, page_left, sound_fault, recalls_moved}
 use Rattle.ctr_store.proofs.store.Store.harden.Goals as goal
 
 pub invariant_of-self : goal.invariant_of-self
 invariant_of-self g c =
     let e = c.harden-hardened.ensures in
+    let went : c.self.inside.stopped ≡ false = ap (λ (v : View g.row.D.Denot). v.stopped) c.self.view_is ∙ c.requires in
     record {
       fold = λ told going. of_ok c.harden-hardened.result (sym c.is_err-self-inside.ensures.value ∙ going) (e.fold told);
+      recalls = λ told sound going.
+          let moves = of_ok c.harden-hardened.result (sym c.is_err-self-inside.ensures.value ∙ going) (e.moves told) in
+          recalls_moved g.D.Disk g.O.Origin.first c.self.inside.parts c.harden-hardened.new.self c.self.inside.directory moves sound (c.self.invariant.recalls told sound went);
       buffer = buffer_kept g.D.Disk c.self.inside.parts.base c.harden-hardened.new.self.base e.keeps.0 c.self.invariant.buffer;
       counted = count_kept g.D.Disk c.self.inside.parts.base c.harden-hardened.new.self.base e.keeps.0 c.self.invariant.counted;
       numbers = numbers_kept g.D.Disk c.self.inside.parts c.harden-hardened.new.self e.keeps.0 e.keeps.1 c.self.invariant.numbers;

@@ -4,12 +4,16 @@ use Rattle.ctr_store.specs.Store.{View, LeavesPage}
 use Rattle.ctr_store.specs.StoreInside.{view_of}
 use Rattle.ctr_store.proofs.BufferLaws.{buffer_kept, count_kept}
 use Rattle.ctr_store.proofs.NumberLaws.{numbers_kept}
-use Rattle.ctr_store.proofs.StoreLaws.{of_ok, page_left}
+use Rattle.ctr_store.proofs.StoreLaws.{of_ok, page_left, recalls_moved}
 use Rattle.ctr_store.proofs.store.Store.home_of.Goals as goal
 
 pub invariant_of-self : goal.invariant_of-self
 invariant_of-self g c = record {
   fold = λ told going. of_ok c.place_of-home.result (sym c.is_err-self-inside.ensures.value ∙ going) (on_ok_weaker c.place_of-home.result (λ x. x.0) (c.place_of-home.ensures.fold told));
+  recalls = λ told sound going.
+      let went : c.self.inside.stopped ≡ false = ap (λ (v : View g.row.D.Denot). v.stopped) c.self.view_is ∙ c.requires in
+      let moves = of_ok c.place_of-home.result (sym c.is_err-self-inside.ensures.value ∙ going) (on_ok_weaker c.place_of-home.result (λ x. x.1) (c.place_of-home.ensures.fold told)) in
+      recalls_moved g.D.Disk g.O.Origin.first c.self.inside.parts c.place_of-home.new.self c.self.inside.directory moves sound (c.self.invariant.recalls told sound went);
   buffer = buffer_kept g.D.Disk c.self.inside.parts.base c.place_of-home.new.self.base c.place_of-home.ensures.keeps.0 c.self.invariant.buffer;
   counted = count_kept g.D.Disk c.self.inside.parts.base c.place_of-home.new.self.base c.place_of-home.ensures.keeps.0 c.self.invariant.counted;
   numbers = numbers_kept g.D.Disk c.self.inside.parts c.place_of-home.new.self c.place_of-home.ensures.keeps.0 c.place_of-home.ensures.keeps.1 c.self.invariant.numbers;

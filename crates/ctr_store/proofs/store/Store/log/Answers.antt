@@ -11,7 +11,7 @@ use Rattle.ctr_store.proofs.StoreLaws.{can_of, of_ok, rests_seen, front_seen, ti
 use Rattle.ctr_store.proofs.store.Store.log.Goals as goal
 
 pub log-logged-requires-clause-can : goal.log-logged-requires-clause-can
-log-logged-requires-clause-can g c = can_of g.D.Disk c.args.rec.now c.self.inside.parts c.self.inside.stopped c.self.invariant.buffer c.self.invariant.numbers (subst (λ (v : View g.row.D.Denot). MayLog c.args.rec.now v) (sym c.self.view_is) c.requires.may) c.in-Ok.ensures
+log-logged-requires-clause-can g c = can_of g.D.Disk c.args.rec.now c.self.inside.parts c.self.inside.stopped c.self.invariant.buffer c.self.invariant.counted c.self.invariant.numbers (subst (λ (v : View g.row.D.Denot). MayLog c.args.rec.now v) (sym c.self.view_is) c.requires.may) c.in-Ok.ensures
 
 pub returns-in-Err-clause-any_moment : goal.returns-in-Err-clause-any_moment
 returns-in-Err-clause-any_moment g c told sound =
@@ -45,6 +45,9 @@ invariant_of-self g c =
     let keeps = on_err_weaker c.log-logged.result (λ k. k.0) e.keeps in
     record {
       fold = λ told going. (of_ok c.log-logged.result (sym c.is_err-self-inside.ensures.value ∙ going) (e.logs told)).1;
+      recalls = λ told sound going.
+          let went : c.self.inside.stopped ≡ false = ap (λ (v : View g.row.D.Denot). v.stopped) c.self.view_is ∙ may.going in
+          (of_ok c.log-logged.result (sym c.is_err-self-inside.ensures.value ∙ going) (e.logs told)).2 sound (c.self.invariant.recalls told sound went);
       buffer = buffer_behind g.D.Disk c.args.rec.now s c.log-logged.new.self c.log-logged.result may.logged.record_is may.change room c.self.invariant.buffer e.takes keeps;
       counted = count_behind g.D.Disk c.args.rec.now s c.log-logged.new.self c.log-logged.result c.self.invariant.counted e.takes keeps;
       numbers = numbers_behind g.D.Disk c.args.rec.now s c.log-logged.new.self c.log-logged.result may.logged may.change (subst (λ (v : View g.row.D.Denot). v.next < 2 ^ 63 - 1) (sym c.self.view_is) may.number) c.self.invariant.numbers e.takes e.keeps;

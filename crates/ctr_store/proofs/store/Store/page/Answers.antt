@@ -2,7 +2,9 @@ use Rattle.std.proofs.Common.{◌≡◌, ◌∙◌, false, refl, ap}
 use Rattle.ctr_base.specs.redo_States.{State, page_at}
 use Rattle.ctr_store.specs.Store.{View}
 use Rattle.ctr_store.proofs.PartsLaws.{fold_low, fold_moved}
-use Rattle.ctr_store.proofs.StoreLaws.{page_fails, page_lends}
+use Rattle.ctr_store.proofs.BufferLaws.{buffer_kept, count_kept}
+use Rattle.ctr_store.proofs.NumberLaws.{numbers_kept}
+use Rattle.ctr_store.proofs.StoreLaws.{page_fails, page_lends, recalls_moved}
 use Rattle.ctr_store.proofs.store.Store.page.Goals as goal
 
 pub returns-in-Err : goal.returns-in-Err
@@ -46,3 +48,22 @@ returns g c =
         after = tt;
       },
     )
+
+pub invariant_of-self-2 : goal.invariant_of-self-2
+invariant_of-self-2 g c =
+    let d = g.D.Disk in
+    let o = g.O.Origin.first in
+    let s = c.self.inside.parts in
+    let t = c.bring.new.self in
+    let e = c.in-Ok.ensures in
+    let keeps = c.bring.ensures.keeps in
+    let inv = c.self.invariant in
+    record {
+      fold = λ told going.
+          let stays = e.stays told in
+          fold_moved o d s t (inv.fold told going) stays.moves (ap (λ k. k.tables) keeps.1) stays.shows stays.over;
+      recalls = λ told sound going. recalls_moved d o s t c.self.inside.directory (e.stays told).moves sound (inv.recalls told sound going);
+      buffer = buffer_kept d s.base t.base keeps.0 inv.buffer;
+      counted = count_kept d s.base t.base keeps.0 inv.counted;
+      numbers = numbers_kept d s t keeps.0 keeps.1 inv.numbers;
+    }
