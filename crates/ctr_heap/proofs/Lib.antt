@@ -1,6 +1,8 @@
 pub mod Sought
 pub mod Keyed
 pub mod Telling
+mod Known
+mod Behind
 pub mod OneRecord
 pub mod Made
 pub use Rattle.ctr_passed.proofs as ctr_passed

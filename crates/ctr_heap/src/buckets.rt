@@ -9,13 +9,15 @@ ghost use Rattle.ctr_walk.specs.Damage.{damage_told, EndsTold, ReadsPages};
 ghost use Rattle.ctr_heap.specs.Finding.{EndsBucket, FindsKey, FindsFree, slots_on_page};
 
 use crate::found::{a_search_tells_a_free_slot, a_search_tells_the_key};
+use crate::recalled::recall;
 use crate::slots::SlotSought;
 use ctr_disk::{Disk, StoreFault};
 use ctr_page::{Chain, Place, bucket_of};
 use ctr_walk::{Origin, Store, search_chain};
 
-/// The slot of a key of a table, by its entry of the catalog: the search goes along the chain of the key's bucket, and checks the entry, and
-/// each page as it is read. It logs nothing, and takes no memory.
+/// The slot of a key of a table, by its entry of the catalog. Where all pages of the key's bucket are remembered it is told with no search; those
+/// that aren't are read first. Else the search goes along the chain of the bucket, and checks the entry, and each page as it is read. It logs
+/// nothing, and no memory that is refused is an error.
 pub fn find<D: Disk, O: Origin>(
     store: &mut Store<D, O>,
     entry: u8,
@@ -34,6 +36,9 @@ pub fn find<D: Disk, O: Origin>(
 {
     a_search_tells_the_key();
     store.counts_pages();
+    if let Some(found) = recall(store, entry, key)? {
+        return Ok(found);
+    }
     let bucket = bucket_of(key);
     search_chain(store, Chain::Rows { entry, bucket }, &SlotSought::Key(key))
 }

@@ -7,6 +7,7 @@
 mod buckets;
 mod fitting;
 mod found;
+mod recalled;
 mod rewriting;
 mod slots;
 mod ways;

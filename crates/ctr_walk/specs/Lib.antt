@@ -14,3 +14,5 @@ pub use Rattle.ctr_record_effects.specs.States as record_effects_States
 pub use Rattle.ctr_store.specs.RecordChecks as store_RecordChecks
 pub use Rattle.ctr_record_effects.specs.ctr_redo.Overlaid as redo_Overlaid
 pub use Rattle.ctr_record_effects.specs.ctr_redo.States as redo_States
+pub use Rattle.ctr_store.specs.directory_Chains as directory_Chains
+pub use Rattle.ctr_store.specs.directory_Keys as directory_Keys
