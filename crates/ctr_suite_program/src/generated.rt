@@ -8,27 +8,41 @@ use std::alloc::Global;
 /// The names of tables: the first two are there before a script, the third is not.
 const TABLES: [&str; 3] = ["a", "b", "c"];
 
+/// How long a script may be: the most transactions of a session, and the most statements of each.
+#[derive(Clone, Copy)]
+pub struct Length {
+    pub transactions: u64,
+    pub statements: u64,
+}
+
 /// What a script is made from.
 #[derive(Drop)]
 pub struct Maker {
     alloc: Global,
     rng: Xoshiro256PlusPlus,
     sessions: u64,
+    length: Length,
     page: Page,
     lines: u64,
 }
 
 impl Maker {
-    pub fn new(alloc: Global, number: u64) -> Maker {
+    pub fn new(alloc: Global, number: u64, length: Length) -> Maker {
         let mut rng = Xoshiro256PlusPlus::seed_from_u64(number);
         let sessions = rng.next_u64() % 7 + 2;
         Maker {
             alloc,
             rng,
             sessions,
+            length,
             page: Page::new(alloc),
             lines: 0,
         }
+    }
+
+    /// How many sessions the script has.
+    pub fn sessions(&self) -> u64 {
+        self.sessions
     }
 
     // A number below this one.
@@ -139,7 +153,7 @@ impl Maker {
         if self.below(12) > 0 {
             self.put_line(session, "BEGIN");
         }
-        for _ in 0..self.below(5) {
+        for _ in 0..self.below(self.length.statements.saturating_add(1)) {
             self.put_statement(session);
         }
         match self.below(8) {
@@ -152,7 +166,7 @@ impl Maker {
     /// The script: a few transactions of each session, one session's lines behind another's.
     pub fn script(&mut self) -> Result<Vec<u8>, OutOfMemory> {
         for session in 1..=self.sessions {
-            for _ in 0..self.below(3).saturating_add(1) {
+            for _ in 0..self.below(self.length.transactions).saturating_add(1) {
                 self.put_transaction(session);
             }
         }

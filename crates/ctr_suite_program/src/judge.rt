@@ -245,7 +245,7 @@ pub enum Found {
 }
 
 /// How many turns recovery's undo has before the statements that look at an image: more than it wants in any case.
-const UNDO_TURNS: usize = 200;
+pub const UNDO_TURNS: usize = 200;
 
 /// The frames of the run that looks at an image.
 const FEW_FRAMES: u64 = 8;
@@ -316,6 +316,49 @@ fn fitting_from(
         }
     }
     Ok(found)
+}
+
+/// Whether a run finds in an image the rows behind so many commits, and nothing to undo.
+pub fn has_kept(
+    alloc: Global,
+    right: &Right,
+    probe: &Probe,
+    image: &Image,
+    commits: usize,
+) -> Result<bool, OutOfMemory> {
+    let setup = looking(alloc, probe, image)?;
+    let kept = kept_by(alloc, right, probe, &setup, commits);
+    drop(setup);
+    kept
+}
+
+fn kept_by(
+    alloc: Global,
+    right: &Right,
+    probe: &Probe,
+    setup: &Setup,
+    commits: usize,
+) -> Result<bool, OutOfMemory> {
+    let ran = play(alloc, setup, Ask::Last)?;
+    let kept = is_kept(alloc, right, probe, &ran, commits);
+    drop(ran);
+    kept
+}
+
+// Whether the probe's tape is legal from the database behind so many commits, of which recovery holds no name.
+fn is_kept(
+    alloc: Global,
+    right: &Right,
+    probe: &Probe,
+    ran: &Ran,
+    commits: usize,
+) -> Result<bool, OutOfMemory> {
+    let lines = probe.script.lines.as_slice();
+    let entries = ran.tape.entries.as_slice();
+    match right.list.get(commits) {
+        Some(base) if ran.status == 0 => is_led_from(alloc, base, &[], lines, entries),
+        _ => Ok(false),
+    }
 }
 
 // What was found, if a report of the image says so too.

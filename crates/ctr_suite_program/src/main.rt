@@ -17,10 +17,12 @@ mod page;
 mod player;
 mod printed;
 mod reading;
+mod rested;
 mod run;
 mod script;
 mod setup;
 mod steps;
+mod stopped;
 mod sweep;
 mod words;
 

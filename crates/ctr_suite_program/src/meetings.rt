@@ -1,6 +1,6 @@
 // Generated scripts, played by generated lists of actors, each judged, and how often each reply was met.
 use crate::databases::Right;
-use crate::generated::Maker;
+use crate::generated::{Length, Maker};
 use crate::judge::{Found, Probe, found_in, led_from};
 use crate::page::Page;
 use crate::run::play;
@@ -123,6 +123,12 @@ fn put_met(alloc: Global, page: &mut Page, name: &str, count: u64, least: u64) {
     }
     page.put(b"\n");
 }
+
+/// How long a script is of which one stop is looked at.
+const LENGTH: Length = Length {
+    transactions: 3,
+    statements: 4,
+};
 
 // Why a generated run is wrong.
 #[derive(Clone, Copy)]
@@ -256,6 +262,14 @@ fn judge_setup(
     fault
 }
 
+/// What is made over a disk.
+pub fn made(alloc: Global, image: &Image, maker: &mut Maker) -> Result<Setup, OutOfMemory> {
+    let script = maker.script()?;
+    let mut setup = plain_turns(alloc, image, script, maker.actors()?)?;
+    setup.frames = maker.frames();
+    Ok(setup)
+}
+
 // Plays what is made over a disk.
 fn play_made(
     alloc: Global,
@@ -264,9 +278,7 @@ fn play_made(
     maker: &mut Maker,
     met: &mut Met,
 ) -> Result<Option<Fault>, OutOfMemory> {
-    let script = maker.script()?;
-    let mut setup = plain_turns(alloc, image, script, maker.actors()?)?;
-    setup.frames = maker.frames();
+    let setup = made(alloc, image, maker)?;
     let fault = judge_setup(alloc, &setup, before, maker, met);
     drop(setup);
     fault
@@ -282,7 +294,7 @@ fn meet(
     met: &mut Met,
     page: &mut Page,
 ) -> Result<(), OutOfMemory> {
-    let mut maker = Maker::new(alloc, number);
+    let mut maker = Maker::new(alloc, number, LENGTH);
     let fault = play_made(alloc, image, before, &mut maker, met);
     drop(maker);
     match fault {

@@ -11,6 +11,7 @@ use crate::run::play;
 use crate::script::add_line;
 use crate::setup::{Ask, Counts, Ran, Setup, Work, run_words};
 use crate::steps::{Step, step_of};
+use crate::stopped::stop_each;
 use crate::sweep::{NO_DATABASE, sweep_failures, sweep_stops};
 use crate::words::{actors_in, root_of, words_in};
 use ctr_mem_disk::Image;
@@ -111,7 +112,7 @@ impl Player {
                 self.look(step)?;
             }
             Step::Record | Step::Cuts => return self.read_record(step, rest),
-            Step::Generated => return self.meet_generated(rest),
+            Step::Generated | Step::GeneratedStops => return self.meet(step, rest),
             _ => return self.set_fault(step, rest),
         }
         Ok(Some(()))
@@ -420,28 +421,48 @@ impl Player {
         done
     }
 
-    // generated FROM TO LEAST
-    fn meet_generated(&mut self, rest: &[u8]) -> Result<Option<()>, OutOfMemory> {
+    // generated FROM TO LEAST, generated-stops FROM TO SESSIONS
+    fn meet(&mut self, step: Step, rest: &[u8]) -> Result<Option<()>, OutOfMemory> {
         let Some((from, rest)) = split_number(rest) else {
             return Ok(None);
         };
         let Some((to, rest)) = split_number(rest) else {
             return Ok(None);
         };
-        let Some(least) = number(rest) else {
+        let Some(last) = number(rest) else {
             return Ok(None);
         };
+        if step == Step::Generated {
+            self.meet_generated((from, to), last)?;
+        } else {
+            self.stop_generated((from, to), last)?;
+        }
+        Ok(Some(()))
+    }
+
+    fn meet_generated(&mut self, numbers: (u64, u64), least: u64) -> Result<(), OutOfMemory> {
         let mut met = Met::new();
         meet_each(
             self.alloc,
             &self.image,
             &self.right,
-            (from, to),
+            numbers,
             &mut met,
             &mut self.page,
         )?;
         met.put(self.alloc, &mut self.page, least);
-        Ok(Some(()))
+        Ok(())
+    }
+
+    fn stop_generated(&mut self, numbers: (u64, u64), sessions: u64) -> Result<(), OutOfMemory> {
+        stop_each(
+            self.alloc,
+            &self.image,
+            &self.right,
+            numbers,
+            sessions,
+            &mut self.page,
+        )
     }
 
     fn read_record(&mut self, step: Step, rest: &[u8]) -> Result<Option<()>, OutOfMemory> {

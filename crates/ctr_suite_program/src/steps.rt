@@ -59,11 +59,12 @@ pub enum Step {
     /// The script that follows, by turns of these actors; and the commits that the last run answered, each at its moment.
     Turns,
     Answers,
-    /// Generated scripts over what the disk holds, by generated lists of actors.
+    /// Generated scripts over what the disk holds, by generated lists of actors; and those of so many sessions, each under every stop.
     Generated,
+    GeneratedStops,
 }
 
-const STEPS: [(&str, Step); 34] = [
+const STEPS: [(&str, Step); 35] = [
     ("case", Step::Case),
     ("init", Step::Init),
     ("run", Step::Run),
@@ -98,6 +99,7 @@ const STEPS: [(&str, Step); 34] = [
     ("turns", Step::Turns),
     ("answers", Step::Answers),
     ("generated", Step::Generated),
+    ("generated-stops", Step::GeneratedStops),
 ];
 
 /// The step that a word names.

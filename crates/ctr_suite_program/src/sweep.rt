@@ -3,8 +3,10 @@ use crate::databases::Right;
 use crate::judge::{Found, Probe, answered_by, found_alone, found_in, led_from};
 use crate::lists::{one, set};
 use crate::page::Page;
+use crate::rested::{Wrong, wrong_rested};
 use crate::run::play;
 use crate::setup::{Ask, Ran, Setup};
+use ctr_mem_disk::Image;
 use ctr_types::OutOfMemory;
 use std::alloc::Global;
 use std::mem;
@@ -154,6 +156,12 @@ fn tally_parts(
     Ok(())
 }
 
+// The images behind the calls of a part.
+fn part_of(part: u64) -> Ask {
+    let from = part.saturating_mul(PART);
+    Ask::Between(from, from.saturating_add(PART - 1))
+}
+
 fn tally_part(
     alloc: Global,
     setup: &Setup,
@@ -163,14 +171,118 @@ fn tally_part(
     probe: &Probe,
     tally: &mut Tally,
 ) -> Result<(), OutOfMemory> {
-    let from = part.saturating_mul(PART);
-    let ran = play(
-        alloc,
-        setup,
-        Ask::Between(from, from.saturating_add(PART - 1)),
-    )?;
+    let ran = play(alloc, setup, part_of(part))?;
     let done = tally_of(alloc, setup, right, was_none, &ran, probe, tally);
     drop(ran);
+    done
+}
+
+/// How many stops and images were looked at, how many images were wrong, and what was wrong with the first of these.
+#[derive(Clone, Copy)]
+pub struct Swept {
+    pub stops: u64,
+    pub images: u64,
+    pub wrong: u64,
+    pub first: Wrong,
+}
+
+impl Swept {
+    pub fn new() -> Swept {
+        Swept {
+            stops: 0,
+            images: 0,
+            wrong: 0,
+            first: None,
+        }
+    }
+
+    // Counts an image, and a stop where it is the first one there.
+    fn count(&mut self, is_stop: bool, wrong: Wrong) {
+        self.images = self.images.saturating_add(1);
+        if is_stop {
+            self.stops = self.stops.saturating_add(1);
+        }
+        if wrong.is_some() {
+            self.wrong = self.wrong.saturating_add(1);
+            self.first = self.first.or(wrong);
+        }
+    }
+}
+
+// What is wrong with an image of a run, where at least so many commits are owed: it holds no prefix of them, or isn't undone and clean in the end.
+fn judge_image(
+    alloc: Global,
+    right: &Right,
+    probe: &Probe,
+    image: &Image,
+    least: usize,
+) -> Result<Wrong, OutOfMemory> {
+    match found_in(alloc, right, probe, image)? {
+        Found::Commits(number) if number >= least => {
+            wrong_rested(alloc, right, probe, image, number)
+        }
+        _ => Ok(Some("other rows")),
+    }
+}
+
+// Judges each image of a run.
+fn judge_images(
+    alloc: Global,
+    setup: &Setup,
+    right: &Right,
+    ran: &Ran,
+    probe: &Probe,
+    swept: &mut Swept,
+) -> Result<(), OutOfMemory> {
+    let mut last = u64::MAX;
+    for taken in ran.seen.images.iter() {
+        let least = owed(setup, ran, right, taken.calls as usize);
+        let wrong = judge_image(alloc, right, probe, &taken.image, least)?;
+        swept.count(taken.calls != last, wrong);
+        last = taken.calls;
+    }
+    Ok(())
+}
+
+fn judge_part(
+    alloc: Global,
+    setup: &Setup,
+    right: &Right,
+    part: u64,
+    probe: &Probe,
+    swept: &mut Swept,
+) -> Result<(), OutOfMemory> {
+    let ran = play(alloc, setup, part_of(part))?;
+    let done = judge_images(alloc, setup, right, &ran, probe, swept);
+    drop(ran);
+    done
+}
+
+fn judge_parts(
+    alloc: Global,
+    setup: &Setup,
+    right: &Right,
+    calls: u64,
+    probe: &Probe,
+    swept: &mut Swept,
+) -> Result<(), OutOfMemory> {
+    for part in 0..=calls / PART {
+        judge_part(alloc, setup, right, part, probe, swept)?;
+    }
+    Ok(())
+}
+
+/// Judges the images that a crash leaves after each number of calls of a run, each also behind undo and the cleaner.
+pub fn sweep_rested(
+    alloc: Global,
+    setup: &Setup,
+    right: &Right,
+    swept: &mut Swept,
+) -> Result<(), OutOfMemory> {
+    let calls = calls_of(alloc, setup)?;
+    let probe = Probe::new(alloc, right)?;
+    let done = judge_parts(alloc, setup, right, calls, &probe, swept);
+    drop(probe);
     done
 }
 
