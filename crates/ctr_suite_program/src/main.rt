@@ -4,34 +4,15 @@
 //! output, which `rt ci` compares with the file `stdout`.
 #![tactic(auto)]
 
-mod calls;
-mod databases;
-mod device;
-mod generated;
-mod judge;
-mod lists;
-mod loads;
-mod meetings;
-mod numbers;
-mod page;
-mod player;
-mod printed;
-mod reading;
-mod rested;
 mod run;
-mod script;
-mod setup;
-mod steps;
-mod stopped;
-mod sweep;
-mod words;
 
 use ctr_suite::played;
-use player::Player;
+use ctr_suite_runs::Player;
+use run::Commands;
 use std::io::{self, Read, Write};
 
 fn main(rt: HostRuntime) -> io::Result<()> {
     let mut suite = Vec::new(rt.alloc());
     let _ = rt.stdin().read_to_end(&mut suite)?;
-    io::writer(&rt).write_all(&played::<Player>(rt.alloc(), &suite))
+    io::writer(&rt).write_all(&played::<Player<Commands>>(rt.alloc(), &suite))
 }

@@ -2,54 +2,21 @@
 //
 // Whoever owns a disk, or what a run has left of it, does nothing else: each step beside it that can fail has a proof
 // that frees all of it.
-ghost use Rattle.std.specs.Prelude.{◌<◌, ◌≤◌};
+ghost use Rattle.std.specs.Prelude.{◌≤◌};
 
-use crate::calls::{counts_of, images_of, listing_of, moments_of};
-use crate::device::{play_calls, play_root};
-use crate::loads::{sessions_of, statements_of};
-use crate::printed::printing_of;
-use crate::setup::{Ask, Ran, Seen, Setup, UNCOUNTED, Work};
 use ctr_disk::Disk;
 use ctr_io::{MemSink, MemSource, Sink, Source};
-use ctr_mem_disk::MemDisk;
+use ctr_mem_disk::{Image, MemDisk};
 use ctr_model::{Command, Report, Survey};
 use ctr_print::{count_answers, count_refusals};
+use ctr_suite_cases::{Files, Trouble, left_in};
+use ctr_suite_judge::{
+    Ask, Engine, Ran, Seen, Setup, UNCOUNTED, Work, Wrong, disk_of, look_at, play_calls, play_root,
+    printing_of, sessions_of, sink_of, source_of, statements_of,
+};
 use ctr_top::{Ending, Schedule, run_script, run_serial};
-use ctr_types::{Actor, List, Plain, Tape, Text};
+use ctr_types::{Actor, OutOfMemory, Plain, Tape};
 use std::alloc::{AllocError, Global};
-
-fn listed(alloc: Global, numbers: &[u64]) -> Result<List<u64>, AllocError> {
-    Ok(List::from_vec(numbers.to_vec(alloc)?))
-}
-
-// At least 1.
-fn most_of(pieces: u64) -> usize
-    ensures { 0 < result }
-{
-    if pieces == 0 {
-        usize::MAX
-    } else {
-        pieces as usize
-    }
-}
-
-fn source_of(alloc: Global, setup: &Setup) -> Result<MemSource, AllocError> {
-    let script = Text::from_slice(alloc, &setup.script)?;
-    let fails = listed(alloc, &setup.source_fails)?;
-    Ok(MemSource::in_pieces(script, fails, most_of(setup.taken_most)))
-}
-
-fn sink_of(alloc: Global, setup: &Setup) -> Result<MemSink, AllocError> {
-    let fails = listed(alloc, &setup.sink_fails)?;
-    Ok(MemSink::in_pieces(alloc, fails, most_of(setup.put_most)))
-}
-
-/// The disk that a run begins with.
-pub fn disk_of(alloc: Global, setup: &Setup) -> Result<MemDisk, AllocError> {
-    let fails = listed(alloc, &setup.disk_fails)?;
-    let disk = MemDisk::at_moment(alloc, setup.image.copy()?, fails, setup.moment)?;
-    Ok(disk.counted(setup.faults, setup.strays))
-}
 
 // What a run leaves, without what its sessions have in memory.
 #[derive(Drop)]
@@ -139,24 +106,6 @@ fn seen_of(
         &left.report,
     );
     look_at(alloc, &left.disk, printing, ask)
-}
-
-/// What is asked of a disk.
-pub fn look_at(
-    alloc: Global,
-    disk: &MemDisk,
-    printing: Vec<u8>,
-    ask: Ask,
-) -> Result<Seen, AllocError> {
-    let moments = moments_of(alloc, disk.calls())?;
-    let images = images_of(alloc, disk, ask)?;
-    Ok(Seen {
-        printing,
-        moments,
-        images,
-        listing: listing_of(alloc, disk.calls(), ask),
-        counts: counts_of(disk),
-    })
 }
 
 // Runs a command.
@@ -263,12 +212,41 @@ fn printed_in(alloc: Global, seen: &Result<Seen, AllocError>) -> Result<Vec<u8>,
     }
 }
 
-/// Does what a setup says.
-pub fn play(alloc: Global, setup: &Setup, ask: Ask) -> Result<Ran, AllocError> {
+// Does what a setup says.
+fn play(alloc: Global, setup: &Setup, ask: Ask) -> Result<Ran, AllocError> {
     match setup.work {
         Work::Command => play_command(alloc, setup, ask),
         Work::Turns => play_turns(alloc, setup, ask),
         Work::Calls => play_calls(alloc, setup, ask),
         Work::WriteRoot(root) => play_root(alloc, setup, root, ask),
+    }
+}
+
+// What is left to undo or to clean in an image, as its bytes say.
+fn left_behind(alloc: Global, image: &Image) -> Result<Wrong, OutOfMemory> {
+    let files = Files {
+        image: image.copy()?,
+        few: true,
+    };
+    let left = left_in(alloc, &files);
+    drop(files);
+    match left {
+        Ok(left) => Ok(left),
+        Err(Trouble::OutOfMemory) => Err(OutOfMemory),
+        Err(trouble) => Ok(Some(trouble.text())),
+    }
+}
+
+/// The commands, as this repository has them.
+#[derive(Clone, Copy)]
+pub struct Commands;
+
+impl Engine for Commands {
+    fn play(alloc: Global, setup: &Setup, ask: Ask) -> Result<Ran, AllocError> {
+        play(alloc, setup, ask)
+    }
+
+    fn left_in(alloc: Global, image: &Image) -> Result<Wrong, OutOfMemory> {
+        left_behind(alloc, image)
     }
 }

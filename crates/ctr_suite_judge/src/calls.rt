@@ -1,10 +1,8 @@
 // What is asked of a disk once a run is over: its images and the shapes of its calls.
-use crate::lists::{add, one};
-use crate::numbers::name_of;
-use crate::page::Page;
 use crate::setup::{Ask, Counts, Taken};
 use ctr_disk::Disk;
 use ctr_mem_disk::{Call, Image, MemDisk, Outcome, Recorded};
+use ctr_suite_steps::{Page, add, name_of, one};
 use std::alloc::{AllocError, Global};
 
 /// The clock after each call.

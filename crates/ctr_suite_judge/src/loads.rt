@@ -1,9 +1,9 @@
 // The generated script of a load.
 ghost use Rattle.std.specs.Prelude.{◌≤◌};
 
-use crate::numbers::number;
 use crate::setup::Setup;
 use ctr_load::make;
+use ctr_suite_steps::number;
 use ctr_types::{OutOfMemory, Script};
 use std::alloc::{AllocError, Global};
 

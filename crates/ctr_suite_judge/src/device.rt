@@ -1,12 +1,11 @@
 // Device calls that a suite lists, and the writing of a root, over a disk in memory.
-use crate::numbers::{hex_bytes, split_file, split_number};
-use crate::page::Page;
-use crate::run::{disk_of, look_at};
+use crate::disks::{disk_of, look_at};
 use crate::setup::{Ask, Ran, Setup, UNCOUNTED};
 use ctr_disk::Disk;
 use ctr_home::{Root, read_root, write_root};
 use ctr_mem_disk::MemDisk;
 use ctr_suite::split_word;
+use ctr_suite_steps::{Page, hex_bytes, split_file, split_number};
 use ctr_types::{File, List, Tape};
 use std::alloc::{AllocError, Global};
 

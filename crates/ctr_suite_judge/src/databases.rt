@@ -1,7 +1,6 @@
 // The databases that a disk may hold, and how they are told apart.
-use crate::lists::{add, one};
-use crate::page::Page;
 use ctr_model::{Map, Point, State, Table};
+use ctr_suite_steps::{Page, add, one};
 use ctr_types::{Column, Kind, Name, OutOfMemory, Plain};
 use std::alloc::Global;
 

@@ -1,6 +1,6 @@
 // The words of a command, and of a root.
 use crate::lists::add;
-use crate::numbers::{number, numbers};
+use crate::numbers::{number, numbers_of};
 use ctr_home::Root;
 use ctr_types::Actor;
 use std::alloc::{AllocError, Global};
@@ -72,7 +72,7 @@ fn root_by(list: &[u64]) -> Option<Root> {
 
 /// A stamp, the number of a file and a first LSN.
 pub fn root_of(alloc: Global, rest: &[u8]) -> Result<Option<Root>, AllocError> {
-    let Some(list) = numbers(alloc, rest)? else {
+    let Some(list) = numbers_of(alloc, rest)? else {
         return Ok(None);
     };
     let root = root_by(&list);

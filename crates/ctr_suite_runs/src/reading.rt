@@ -1,10 +1,10 @@
-// What the readers say of single lines and records.
-use crate::numbers::hex_bytes;
-use crate::page::Page;
+// What the readers say of single lines and records, and bytes of a file.
 use ctr_io::MemSource;
 use ctr_lex::tokens;
+use ctr_mem_disk::Bytes;
 use ctr_rec::decode;
 use ctr_script::{ScriptError, read_script};
+use ctr_suite_steps::{Page, hex_bytes};
 use ctr_types::{List, OutOfMemory, Script, Text};
 use std::alloc::Global;
 
@@ -153,4 +153,13 @@ pub fn put_bytes(
         put_record(alloc, page, &bytes);
     }
     Ok(Some(()))
+}
+
+/// The bytes from a place to another, as far as there are any.
+pub fn put_part(alloc: Global, page: &mut Page, bytes: &Bytes, from: u64, to: u64) {
+    for at in from..to.min(bytes.len()) {
+        let mut byte = [0];
+        bytes.read(at, &mut byte);
+        page.put_hex(alloc, byte[0]);
+    }
 }

@@ -1,9 +1,9 @@
 // What a run has to print, by its tape, status and cause; and which commits its tape answers.
-use crate::page::Page;
 use crate::setup::{Ran, Setup};
 use ctr_io::MemSink;
 use ctr_model::{Cause, Command, Report};
 use ctr_print::{Printer, put_last_line, put_run};
+use ctr_suite_steps::Page;
 use ctr_types::{List, Reply, Tape};
 use std::alloc::Global;
 

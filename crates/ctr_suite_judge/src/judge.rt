@@ -3,15 +3,15 @@ ghost use Rattle.std.specs.Prelude.{◌≡◌};
 ghost use Rattle.ctr_model.specs.Tape.{at_start};
 
 use crate::databases::{Right, probing};
-use crate::lists::add;
+use crate::engine::Engine;
 use crate::loads::load_script;
-use crate::run::play;
 use crate::setup::{Ask, Ran, Setup, plain_report, plain_run, plain_turns};
 use ctr_io::MemSource;
 use ctr_machine::is_legal;
 use ctr_mem_disk::Image;
 use ctr_model::{Map, Point, State, Survey, Table};
 use ctr_script::read_script;
+use ctr_suite_steps::add;
 use ctr_types::{
     Act, Actor, Entry, Line, List, Name, OutOfMemory, Plain, Reply, Script, Tape, Text,
 };
@@ -112,18 +112,22 @@ fn released_in(alloc: Global, tape: &Tape) -> Result<Vec<Name>, OutOfMemory> {
 }
 
 // The names that recovery holds as a run begins: those that a finished one releases, or else those that a run without statements does.
-fn held_before(alloc: Global, setup: &Setup, ran: &Ran) -> Result<Vec<Name>, OutOfMemory> {
+fn held_before<E: Engine>(
+    alloc: Global,
+    setup: &Setup,
+    ran: &Ran,
+) -> Result<Vec<Name>, OutOfMemory> {
     if ran.status == 0 {
         return released_in(alloc, &ran.tape);
     }
     let idle = plain_run(alloc, &setup.image, &[])?;
-    let names = released_by(alloc, &idle);
+    let names = released_by::<E>(alloc, &idle);
     drop(idle);
     names
 }
 
-fn released_by(alloc: Global, setup: &Setup) -> Result<Vec<Name>, OutOfMemory> {
-    let ran = play(alloc, setup, Ask::Last)?;
+fn released_by<E: Engine>(alloc: Global, setup: &Setup) -> Result<Vec<Name>, OutOfMemory> {
+    let ran = E::play(alloc, setup, Ask::Last)?;
     let names = released_in(alloc, &ran.tape);
     drop(ran);
     names
@@ -142,13 +146,13 @@ pub fn answered_by(entries: &[Entry], moment: u64) -> usize {
 
 /// Which databases are right after the run of a script, if its tape is legal from one that was right before. A run of
 /// status 0 has made all its commits; any other those at least that it answered.
-pub fn led_from(
+pub fn led_from<E: Engine>(
     alloc: Global,
     right: &Right,
     setup: &Setup,
     ran: &Ran,
 ) -> Result<Option<Right>, OutOfMemory> {
-    let stuck = held_before(alloc, setup, ran)?;
+    let stuck = held_before::<E>(alloc, setup, ran)?;
     let led = led_with(alloc, right, &stuck, setup, ran);
     drop(stuck);
     led
@@ -260,33 +264,37 @@ fn looking(alloc: Global, probe: &Probe, image: &Image) -> Result<Setup, OutOfMe
 }
 
 /// What a run finds in an image, and a report of it.
-pub fn found_in(
+pub fn found_in<E: Engine>(
     alloc: Global,
     right: &Right,
     probe: &Probe,
     image: &Image,
 ) -> Result<Found, OutOfMemory> {
     let setup = looking(alloc, probe, image)?;
-    let found = found_by(alloc, right, probe, &setup);
+    let found = found_by::<E>(alloc, right, probe, &setup);
     drop(setup);
-    reported(alloc, right, image, found?)
+    reported::<E>(alloc, right, image, found?)
 }
 
 /// What a run finds in an image, with a probe of its own.
-pub fn found_alone(alloc: Global, right: &Right, image: &Image) -> Result<Found, OutOfMemory> {
+pub fn found_alone<E: Engine>(
+    alloc: Global,
+    right: &Right,
+    image: &Image,
+) -> Result<Found, OutOfMemory> {
     let probe = Probe::new(alloc, right)?;
-    let found = found_in(alloc, right, &probe, image);
+    let found = found_in::<E>(alloc, right, &probe, image);
     drop(probe);
     found
 }
 
-fn found_by(
+fn found_by<E: Engine>(
     alloc: Global,
     right: &Right,
     probe: &Probe,
     setup: &Setup,
 ) -> Result<Found, OutOfMemory> {
-    let ran = play(alloc, setup, Ask::Last)?;
+    let ran = E::play(alloc, setup, Ask::Last)?;
     let found = fitting(alloc, right, probe.script.lines.as_slice(), &ran);
     drop(ran);
     found
@@ -319,7 +327,7 @@ fn fitting_from(
 }
 
 /// Whether a run finds in an image the rows behind so many commits, and nothing to undo.
-pub fn has_kept(
+pub fn has_kept<E: Engine>(
     alloc: Global,
     right: &Right,
     probe: &Probe,
@@ -327,19 +335,19 @@ pub fn has_kept(
     commits: usize,
 ) -> Result<bool, OutOfMemory> {
     let setup = looking(alloc, probe, image)?;
-    let kept = kept_by(alloc, right, probe, &setup, commits);
+    let kept = kept_by::<E>(alloc, right, probe, &setup, commits);
     drop(setup);
     kept
 }
 
-fn kept_by(
+fn kept_by<E: Engine>(
     alloc: Global,
     right: &Right,
     probe: &Probe,
     setup: &Setup,
     commits: usize,
 ) -> Result<bool, OutOfMemory> {
-    let ran = play(alloc, setup, Ask::Last)?;
+    let ran = E::play(alloc, setup, Ask::Last)?;
     let kept = is_kept(alloc, right, probe, &ran, commits);
     drop(ran);
     kept
@@ -362,25 +370,25 @@ fn is_kept(
 }
 
 // What was found, if a report of the image says so too.
-fn reported(
+fn reported<E: Engine>(
     alloc: Global,
     right: &Right,
     image: &Image,
     found: Found,
 ) -> Result<Found, OutOfMemory> {
     let setup = plain_report(alloc, image)?;
-    let told = told_by(alloc, right, &setup, found);
+    let told = told_by::<E>(alloc, right, &setup, found);
     drop(setup);
     told
 }
 
-fn told_by(
+fn told_by<E: Engine>(
     alloc: Global,
     right: &Right,
     setup: &Setup,
     found: Found,
 ) -> Result<Found, OutOfMemory> {
-    let ran = play(alloc, setup, Ask::Last)?;
+    let ran = E::play(alloc, setup, Ask::Last)?;
     let told = is_told(right, &ran, found);
     drop(ran);
     if told { Ok(found) } else { Ok(Found::Other) }

@@ -1,15 +1,10 @@
 // What undo and the cleaner leave of an image: nothing to undo or to clean, and the same rows.
-use crate::databases::Right;
-use crate::judge::{Probe, UNDO_TURNS, has_kept};
-use crate::run::play;
-use crate::setup::{Ask, Ran, Setup, plain_turns};
 use ctr_mem_disk::Image;
-use ctr_suite_cases::{Files, Trouble, left_in};
+use ctr_suite_judge::{
+    Ask, Engine, Probe, Ran, Right, Setup, UNDO_TURNS, Wrong, has_kept, plain_turns,
+};
 use ctr_types::{Actor, OutOfMemory};
 use std::alloc::Global;
-
-/// What is wrong, in words; none where nothing is.
-pub type Wrong = Option<&'static str>;
 
 /// How many turns the cleaner has behind undo: more than it wants in any case.
 const CLEANER_TURNS: usize = 900;
@@ -23,7 +18,7 @@ fn resting(alloc: Global, image: &Image) -> Result<Setup, OutOfMemory> {
 
 /// What is wrong with what undo and the cleaner leave of an image of so many commits: something is left to undo or to clean, or there are
 /// other rows.
-pub fn wrong_rested(
+pub fn wrong_rested<E: Engine>(
     alloc: Global,
     right: &Right,
     probe: &Probe,
@@ -31,25 +26,25 @@ pub fn wrong_rested(
     commits: usize,
 ) -> Result<Wrong, OutOfMemory> {
     let setup = resting(alloc, image)?;
-    let wrong = wrong_by(alloc, right, probe, &setup, commits);
+    let wrong = wrong_by::<E>(alloc, right, probe, &setup, commits);
     drop(setup);
     wrong
 }
 
-fn wrong_by(
+fn wrong_by<E: Engine>(
     alloc: Global,
     right: &Right,
     probe: &Probe,
     setup: &Setup,
     commits: usize,
 ) -> Result<Wrong, OutOfMemory> {
-    let ran = play(alloc, setup, Ask::Last)?;
-    let wrong = wrong_in(alloc, right, probe, &ran, commits);
+    let ran = E::play(alloc, setup, Ask::Last)?;
+    let wrong = wrong_in::<E>(alloc, right, probe, &ran, commits);
     drop(ran);
     wrong
 }
 
-fn wrong_in(
+fn wrong_in<E: Engine>(
     alloc: Global,
     right: &Right,
     probe: &Probe,
@@ -62,28 +57,13 @@ fn wrong_in(
     if ran.status != 0 {
         return Ok(Some("undo and the cleaner aren't finished"));
     }
-    let left = left_behind(alloc, &taken.image)?;
+    let left = E::left_in(alloc, &taken.image)?;
     if left.is_some() {
         return Ok(left);
     }
-    if has_kept(alloc, right, probe, &taken.image, commits)? {
+    if has_kept::<E>(alloc, right, probe, &taken.image, commits)? {
         Ok(None)
     } else {
         Ok(Some("other rows behind undo and the cleaner"))
-    }
-}
-
-// What is left to undo or to clean in an image, as its bytes say.
-fn left_behind(alloc: Global, image: &Image) -> Result<Wrong, OutOfMemory> {
-    let files = Files {
-        image: image.copy()?,
-        few: true,
-    };
-    let left = left_in(alloc, &files);
-    drop(files);
-    match left {
-        Ok(left) => Ok(left),
-        Err(Trouble::OutOfMemory) => Err(OutOfMemory),
-        Err(trouble) => Ok(Some(trouble.text())),
     }
 }

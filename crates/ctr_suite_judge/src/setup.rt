@@ -1,9 +1,8 @@
 // What a run begins with, and what it leaves: plain data. A disk lives inside a run alone.
-use crate::lists::{add, set};
-use crate::page::Page;
 use ctr_home::Root;
 use ctr_mem_disk::Image;
 use ctr_model::Survey;
+use ctr_suite_steps::{Page, add, set};
 use ctr_types::{Actor, Tape};
 use std::alloc::{AllocError, Global};
 

@@ -1,23 +1,21 @@
 // Plays the lines of a suite.
-use crate::databases::Right;
-use crate::judge::{Found, found_alone, led_from};
-use crate::lists::set;
 use crate::meetings::{Met, meet_each};
-use crate::numbers::{filling, hex_bytes, name_of, number, numbers, split_file, split_number};
-use crate::page::Page;
-use crate::printed::{is_printed, put_answered};
-use crate::reading::{put_bytes, put_lines};
-use crate::run::play;
-use crate::script::add_line;
-use crate::setup::{Ask, Counts, Ran, Setup, Work, run_words};
-use crate::steps::{Step, step_of};
+use crate::reading::{put_bytes, put_lines, put_part};
 use crate::stopped::stop_each;
 use crate::sweep::{NO_DATABASE, sweep_failures, sweep_stops};
-use crate::words::{actors_in, root_of, words_in};
 use ctr_mem_disk::Image;
 use ctr_suite::{Plays, split_word};
+use ctr_suite_judge::{
+    Ask, Counts, Engine, Found, Ran, Right, Setup, Work, found_alone, is_printed, led_from,
+    put_answered, run_words,
+};
+use ctr_suite_steps::{
+    Page, Step, actors_in, add_line, filling, hex_bytes, name_of, number, numbers_of, root_of, set,
+    split_file, split_number, step_of, words_in,
+};
 use ctr_types::{File, OutOfMemory, Plain};
 use std::alloc::Global;
+use std::marker::PhantomData;
 use std::mem;
 
 /// The status of a run that finds a damaged database.
@@ -37,8 +35,9 @@ enum Waiting {
 
 /// Where a suite stands.
 #[derive(Drop)]
-pub struct Player {
+pub struct Player<E: Engine> {
     alloc: Global,
+    of: PhantomData<E>,
     page: Page,
     /// What the disk holds.
     image: Image,
@@ -55,7 +54,7 @@ pub struct Player {
     counts: Counts,
 }
 
-impl Player {
+impl<E: Engine> Player<E> {
     // Does what waits.
     fn settle(&mut self) {
         let waiting = mem::replace(&mut self.waiting, Waiting::Nothing);
@@ -172,7 +171,7 @@ impl Player {
 
     // What fails in the next run, how much is moved at once, and what its disk has counted before.
     fn set_fault(&mut self, step: Step, rest: &[u8]) -> Result<Option<()>, OutOfMemory> {
-        let Some(list) = numbers(self.alloc, rest)? else {
+        let Some(list) = numbers_of(self.alloc, rest)? else {
             return Ok(None);
         };
         let first = list.first().copied().unwrap_or(0);
@@ -217,7 +216,7 @@ impl Player {
         let to = number(rest)?;
         self.page.put(name_of(file).as_bytes());
         let bytes = self.image.file(file);
-        self.page.put_part(self.alloc, bytes, from, to);
+        put_part(self.alloc, &mut self.page, bytes, from, to);
         self.page.put(b"\n");
         Some(())
     }
@@ -239,7 +238,7 @@ impl Player {
 
     fn run(&mut self) -> Result<(), OutOfMemory> {
         self.begin_last()?;
-        let ran = play(self.alloc, &self.last, Ask::Last)?;
+        let ran = E::play(self.alloc, &self.last, Ask::Last)?;
         let taken = self.take_run(&ran);
         drop(ran);
         taken
@@ -304,7 +303,7 @@ impl Player {
         if ran.tape.entries.is_empty() {
             return Ok(());
         }
-        match led_from(self.alloc, &self.right, &self.last, ran)? {
+        match led_from::<E>(self.alloc, &self.right, &self.last, ran)? {
             Some(right) => set(&mut self.right, right),
             None => self.page.put(b"WRONG: the tape isn't legal\n"),
         }
@@ -323,7 +322,7 @@ impl Player {
     }
 
     fn found(&self) -> Result<Found, OutOfMemory> {
-        found_alone(self.alloc, &self.right, &self.image)
+        found_alone::<E>(self.alloc, &self.right, &self.image)
     }
 
     // Which of the databases that are right the disk holds.
@@ -351,7 +350,7 @@ impl Player {
         let Some(digits) = number(rest) else {
             return Ok(None);
         };
-        let ran = play(self.alloc, &self.last, Ask::Stop(calls, digits))?;
+        let ran = E::play(self.alloc, &self.last, Ask::Stop(calls, digits))?;
         let goes_on = self.go_on_with(&ran);
         drop(ran);
         goes_on
@@ -384,7 +383,7 @@ impl Player {
     }
 
     fn list_calls(&mut self) -> Result<(), OutOfMemory> {
-        let ran = play(self.alloc, &self.last, Ask::Calls)?;
+        let ran = E::play(self.alloc, &self.last, Ask::Calls)?;
         self.page.put(ran.seen.listing.bytes());
         drop(ran);
         Ok(())
@@ -392,14 +391,14 @@ impl Player {
 
     // Each commit that the last run answered, with the moment.
     fn put_answers(&mut self) -> Result<(), OutOfMemory> {
-        let ran = play(self.alloc, &self.last, Ask::Last)?;
+        let ran = E::play(self.alloc, &self.last, Ask::Last)?;
         put_answered(self.alloc, &mut self.page, &ran.tape);
         drop(ran);
         Ok(())
     }
 
     fn sweep_stops(&mut self) -> Result<(), OutOfMemory> {
-        sweep_stops(
+        sweep_stops::<E>(
             self.alloc,
             &self.last,
             &self.right,
@@ -409,7 +408,7 @@ impl Player {
     }
 
     fn sweep_failures(&mut self) -> Result<(), OutOfMemory> {
-        sweep_failures(self.alloc, &mut self.last, &self.before, &mut self.page)
+        sweep_failures::<E>(self.alloc, &mut self.last, &self.before, &mut self.page)
     }
 
     // The tokens of each line, or whether it is a script.
@@ -442,7 +441,7 @@ impl Player {
 
     fn meet_generated(&mut self, numbers: (u64, u64), least: u64) -> Result<(), OutOfMemory> {
         let mut met = Met::new();
-        meet_each(
+        meet_each::<E>(
             self.alloc,
             &self.image,
             &self.right,
@@ -455,7 +454,7 @@ impl Player {
     }
 
     fn stop_generated(&mut self, numbers: (u64, u64), sessions: u64) -> Result<(), OutOfMemory> {
-        stop_each(
+        stop_each::<E>(
             self.alloc,
             &self.image,
             &self.right,
@@ -470,10 +469,11 @@ impl Player {
     }
 }
 
-impl Plays for Player {
-    fn new(alloc: Global) -> Player {
+impl<E: Engine> Plays for Player<E> {
+    fn new(alloc: Global) -> Player<E> {
         Player {
             alloc,
+            of: PhantomData,
             page: Page::new(alloc),
             image: Image::new(alloc),
             next: Setup::new(alloc, Image::new(alloc)),

@@ -1,12 +1,10 @@
 // Generated scripts, played by generated lists of actors, each judged, and how often each reply was met.
-use crate::databases::Right;
-use crate::generated::{Length, Maker};
-use crate::judge::{Found, Probe, found_in, led_from};
-use crate::page::Page;
-use crate::run::play;
-use crate::setup::{Ask, Ran, Setup, plain_turns};
 use crate::sweep::owed;
 use ctr_mem_disk::Image;
+use ctr_suite_judge::{
+    Ask, Engine, Found, Probe, Ran, Right, Setup, found_in, led_from, plain_turns,
+};
+use ctr_suite_steps::{Length, Maker, Page};
 use ctr_types::{OutOfMemory, Refusal, Reply};
 use std::alloc::Global;
 
@@ -157,7 +155,7 @@ fn tell(alloc: Global, page: &mut Page, met: &mut Met, number: u64, fault: Fault
 }
 
 // What the disk is left with at the end, and by a stop at one moment: rows of right commits, as many as are owed.
-fn is_left_well(
+fn is_left_well<E: Engine>(
     alloc: Global,
     setup: &Setup,
     right: &Right,
@@ -169,12 +167,12 @@ fn is_left_well(
     let calls = maker.number((at_end as u64).saturating_add(1));
     let digits = maker.number(64);
     Ok(
-        is_stopped_well(alloc, setup, right, ran, probe, calls, digits)?
-            && is_found(alloc, setup, right, ran, probe, ran, at_end)?,
+        is_stopped_well::<E>(alloc, setup, right, ran, probe, calls, digits)?
+            && is_found::<E>(alloc, setup, right, ran, probe, ran, at_end)?,
     )
 }
 
-fn is_stopped_well(
+fn is_stopped_well<E: Engine>(
     alloc: Global,
     setup: &Setup,
     right: &Right,
@@ -183,14 +181,14 @@ fn is_stopped_well(
     calls: u64,
     digits: u64,
 ) -> Result<bool, OutOfMemory> {
-    let stopped = play(alloc, setup, Ask::Stop(calls, digits))?;
-    let found = is_found(alloc, setup, right, ran, probe, &stopped, calls as usize);
+    let stopped = E::play(alloc, setup, Ask::Stop(calls, digits))?;
+    let found = is_found::<E>(alloc, setup, right, ran, probe, &stopped, calls as usize);
     drop(stopped);
     found
 }
 
 // Whether the image of a run holds as many commits as are owed after so many calls.
-fn is_found(
+fn is_found<E: Engine>(
     alloc: Global,
     setup: &Setup,
     right: &Right,
@@ -203,14 +201,14 @@ fn is_found(
         return Ok(false);
     };
     let least = owed(setup, ran, right, calls);
-    match found_in(alloc, right, probe, &taken.image)? {
+    match found_in::<E>(alloc, right, probe, &taken.image)? {
         Found::Commits(number) => Ok(number >= least),
         Found::Status(_) | Found::Other => Ok(false),
     }
 }
 
 // What is wrong with a disk that a run has left, after which these databases are right.
-fn judge_left(
+fn judge_left<E: Engine>(
     alloc: Global,
     setup: &Setup,
     right: &Right,
@@ -218,7 +216,7 @@ fn judge_left(
     maker: &mut Maker,
 ) -> Result<Option<Fault>, OutOfMemory> {
     let probe = Probe::new(alloc, right)?;
-    let left = is_left_well(alloc, setup, right, ran, &probe, maker);
+    let left = is_left_well::<E>(alloc, setup, right, ran, &probe, maker);
     drop(probe);
     match left {
         Ok(true) => Ok(None),
@@ -227,7 +225,7 @@ fn judge_left(
     }
 }
 
-fn judge_ran(
+fn judge_ran<E: Engine>(
     alloc: Global,
     setup: &Setup,
     before: &Right,
@@ -239,25 +237,25 @@ fn judge_ran(
     if ran.status != 0 {
         return Ok(Some(Fault::Unfinished));
     }
-    match led_from(alloc, before, setup, ran)? {
+    match led_from::<E>(alloc, before, setup, ran)? {
         None => Ok(Some(Fault::Illegal)),
         Some(right) => {
-            let fault = judge_left(alloc, setup, &right, ran, maker);
+            let fault = judge_left::<E>(alloc, setup, &right, ran, maker);
             drop(right);
             fault
         }
     }
 }
 
-fn judge_setup(
+fn judge_setup<E: Engine>(
     alloc: Global,
     setup: &Setup,
     before: &Right,
     maker: &mut Maker,
     met: &mut Met,
 ) -> Result<Option<Fault>, OutOfMemory> {
-    let ran = play(alloc, setup, Ask::Last)?;
-    let fault = judge_ran(alloc, setup, before, &ran, maker, met);
+    let ran = E::play(alloc, setup, Ask::Last)?;
+    let fault = judge_ran::<E>(alloc, setup, before, &ran, maker, met);
     drop(ran);
     fault
 }
@@ -271,7 +269,7 @@ pub fn made(alloc: Global, image: &Image, maker: &mut Maker) -> Result<Setup, Ou
 }
 
 // Plays what is made over a disk.
-fn play_made(
+fn play_made<E: Engine>(
     alloc: Global,
     image: &Image,
     before: &Right,
@@ -279,14 +277,14 @@ fn play_made(
     met: &mut Met,
 ) -> Result<Option<Fault>, OutOfMemory> {
     let setup = made(alloc, image, maker)?;
-    let fault = judge_setup(alloc, &setup, before, maker, met);
+    let fault = judge_setup::<E>(alloc, &setup, before, maker, met);
     drop(setup);
     fault
 }
 
 /// Plays the script of a number over a disk, by its list of actors, and judges it: the tape is legal, the run is
 /// finished, and the disk is left with a prefix of the commits, at the end and by a stop at one moment.
-fn meet(
+fn meet<E: Engine>(
     alloc: Global,
     image: &Image,
     before: &Right,
@@ -295,7 +293,7 @@ fn meet(
     page: &mut Page,
 ) -> Result<(), OutOfMemory> {
     let mut maker = Maker::new(alloc, number, LENGTH);
-    let fault = play_made(alloc, image, before, &mut maker, met);
+    let fault = play_made::<E>(alloc, image, before, &mut maker, met);
     drop(maker);
     match fault {
         Ok(None) => Ok(()),
@@ -308,7 +306,7 @@ fn meet(
 }
 
 /// Meets the scripts of these numbers, from the first to the last.
-pub fn meet_each(
+pub fn meet_each<E: Engine>(
     alloc: Global,
     image: &Image,
     right: &Right,
@@ -317,7 +315,7 @@ pub fn meet_each(
     page: &mut Page,
 ) -> Result<(), OutOfMemory> {
     for script in from..=to {
-        meet(alloc, image, right, script, met, page)?;
+        meet::<E>(alloc, image, right, script, met, page)?;
     }
     Ok(())
 }

@@ -1,14 +1,9 @@
 // Generated scripts of so many sessions, each under every stop.
-use crate::databases::Right;
-use crate::generated::{Length, Maker};
-use crate::judge::led_from;
 use crate::meetings::made;
-use crate::page::Page;
-use crate::rested::Wrong;
-use crate::run::play;
-use crate::setup::{Ask, Ran, Setup};
 use crate::sweep::{Swept, sweep_rested};
 use ctr_mem_disk::Image;
+use ctr_suite_judge::{Ask, Engine, Ran, Right, Setup, Wrong, led_from};
+use ctr_suite_steps::{Length, Maker, Page};
 use ctr_types::OutOfMemory;
 use std::alloc::Global;
 
@@ -60,7 +55,7 @@ impl Stopped {
 }
 
 // Sweeps the stops of a run, after which its tape leads to what is right.
-fn sweep_ran(
+fn sweep_ran<E: Engine>(
     alloc: Global,
     setup: &Setup,
     before: &Right,
@@ -72,32 +67,32 @@ fn sweep_ran(
         stopped.refuse();
         return Ok(());
     }
-    match led_from(alloc, before, setup, ran)? {
+    match led_from::<E>(alloc, before, setup, ran)? {
         None => {
             stopped.refuse();
             Ok(())
         }
         Some(right) => {
-            let done = sweep_rested(alloc, setup, &right, &mut stopped.swept);
+            let done = sweep_rested::<E>(alloc, setup, &right, &mut stopped.swept);
             drop(right);
             done
         }
     }
 }
 
-fn sweep_setup(
+fn sweep_setup<E: Engine>(
     alloc: Global,
     setup: &Setup,
     before: &Right,
     stopped: &mut Stopped,
 ) -> Result<(), OutOfMemory> {
-    let ran = play(alloc, setup, Ask::Last)?;
-    let done = sweep_ran(alloc, setup, before, &ran, stopped);
+    let ran = E::play(alloc, setup, Ask::Last)?;
+    let done = sweep_ran::<E>(alloc, setup, before, &ran, stopped);
     drop(ran);
     done
 }
 
-fn sweep_made(
+fn sweep_made<E: Engine>(
     alloc: Global,
     image: &Image,
     before: &Right,
@@ -105,13 +100,13 @@ fn sweep_made(
     stopped: &mut Stopped,
 ) -> Result<(), OutOfMemory> {
     let setup = made(alloc, image, maker)?;
-    let done = sweep_setup(alloc, &setup, before, stopped);
+    let done = sweep_setup::<E>(alloc, &setup, before, stopped);
     drop(setup);
     done
 }
 
 // The script of a number, if it is one of so many sessions.
-fn sweep_number(
+fn sweep_number<E: Engine>(
     alloc: Global,
     image: &Image,
     before: &Right,
@@ -122,7 +117,7 @@ fn sweep_number(
     let mut maker = Maker::new(alloc, number, LENGTH);
     let mut done = Ok(());
     if maker.sessions() == sessions {
-        done = sweep_made(alloc, image, before, &mut maker, stopped);
+        done = sweep_made::<E>(alloc, image, before, &mut maker, stopped);
     }
     drop(maker);
     done
@@ -143,7 +138,7 @@ fn tell(alloc: Global, page: &mut Page, number: u64, before: Stopped, stopped: S
 
 /// Plays those of the scripts from one number to another that have so many sessions, each with a stop behind each of its calls, and judges what
 /// each leaves: rows of a prefix of the commits, and behind undo and the cleaner the same ones, and nothing else.
-pub fn stop_each(
+pub fn stop_each<E: Engine>(
     alloc: Global,
     image: &Image,
     right: &Right,
@@ -154,7 +149,7 @@ pub fn stop_each(
     let mut stopped = Stopped::new();
     for number in from..=to {
         let before = stopped;
-        sweep_number(alloc, image, right, number, sessions, &mut stopped)?;
+        sweep_number::<E>(alloc, image, right, number, sessions, &mut stopped)?;
         tell(alloc, page, number, before, stopped);
     }
     stopped.put(alloc, page);

@@ -1,12 +1,11 @@
 // A run under every stop, and under every failing call.
-use crate::databases::Right;
-use crate::judge::{Found, Probe, answered_by, found_alone, found_in, led_from};
-use crate::lists::{one, set};
-use crate::page::Page;
-use crate::rested::{Wrong, wrong_rested};
-use crate::run::play;
-use crate::setup::{Ask, Ran, Setup};
+use crate::rested::wrong_rested;
 use ctr_mem_disk::Image;
+use ctr_suite_judge::{
+    Ask, Engine, Found, Probe, Ran, Right, Setup, Wrong, answered_by, found_alone, found_in,
+    led_from,
+};
+use ctr_suite_steps::{Page, one, set};
 use ctr_types::OutOfMemory;
 use std::alloc::Global;
 use std::mem;
@@ -91,7 +90,7 @@ pub fn owed(setup: &Setup, ran: &Ran, right: &Right, calls: usize) -> usize {
 }
 
 // Judges each image of a run.
-fn tally_of(
+fn tally_of<E: Engine>(
     alloc: Global,
     setup: &Setup,
     right: &Right,
@@ -104,7 +103,7 @@ fn tally_of(
         let calls = taken.calls as usize;
         let least = owed(setup, ran, right, calls);
         let may_lack = was_none && (calls < ran.seen.moments.len() || right.none);
-        let found = found_in(alloc, right, probe, &taken.image)?;
+        let found = found_in::<E>(alloc, right, probe, &taken.image)?;
         tally.count(found, least, may_lack);
     }
     Ok(())
@@ -112,7 +111,7 @@ fn tally_of(
 
 /// Judges the images that a crash leaves after each number of calls of a run. The databases that are right are those
 /// after it; before it there may have been none.
-pub fn sweep_stops(
+pub fn sweep_stops<E: Engine>(
     alloc: Global,
     setup: &Setup,
     right: &Right,
@@ -120,28 +119,28 @@ pub fn sweep_stops(
     page: &mut Page,
 ) -> Result<(), OutOfMemory> {
     let mut tally = Tally::new(alloc, right)?;
-    let done = tally_stops(alloc, setup, right, was_none, &mut tally);
+    let done = tally_stops::<E>(alloc, setup, right, was_none, &mut tally);
     page.put(b"each stop: ");
     tally.put(alloc, page);
     drop(tally);
     done
 }
 
-fn tally_stops(
+fn tally_stops<E: Engine>(
     alloc: Global,
     setup: &Setup,
     right: &Right,
     was_none: bool,
     tally: &mut Tally,
 ) -> Result<(), OutOfMemory> {
-    let calls = calls_of(alloc, setup)?;
+    let calls = calls_of::<E>(alloc, setup)?;
     let probe = Probe::new(alloc, right)?;
-    let done = tally_parts(alloc, setup, right, was_none, calls, &probe, tally);
+    let done = tally_parts::<E>(alloc, setup, right, was_none, calls, &probe, tally);
     drop(probe);
     done
 }
 
-fn tally_parts(
+fn tally_parts<E: Engine>(
     alloc: Global,
     setup: &Setup,
     right: &Right,
@@ -151,7 +150,7 @@ fn tally_parts(
     tally: &mut Tally,
 ) -> Result<(), OutOfMemory> {
     for part in 0..=calls / PART {
-        tally_part(alloc, setup, right, was_none, part, probe, tally)?;
+        tally_part::<E>(alloc, setup, right, was_none, part, probe, tally)?;
     }
     Ok(())
 }
@@ -162,7 +161,7 @@ fn part_of(part: u64) -> Ask {
     Ask::Between(from, from.saturating_add(PART - 1))
 }
 
-fn tally_part(
+fn tally_part<E: Engine>(
     alloc: Global,
     setup: &Setup,
     right: &Right,
@@ -171,8 +170,8 @@ fn tally_part(
     probe: &Probe,
     tally: &mut Tally,
 ) -> Result<(), OutOfMemory> {
-    let ran = play(alloc, setup, part_of(part))?;
-    let done = tally_of(alloc, setup, right, was_none, &ran, probe, tally);
+    let ran = E::play(alloc, setup, part_of(part))?;
+    let done = tally_of::<E>(alloc, setup, right, was_none, &ran, probe, tally);
     drop(ran);
     done
 }
@@ -210,23 +209,23 @@ impl Swept {
 }
 
 // What is wrong with an image of a run, where at least so many commits are owed: it holds no prefix of them, or isn't undone and clean in the end.
-fn judge_image(
+fn judge_image<E: Engine>(
     alloc: Global,
     right: &Right,
     probe: &Probe,
     image: &Image,
     least: usize,
 ) -> Result<Wrong, OutOfMemory> {
-    match found_in(alloc, right, probe, image)? {
+    match found_in::<E>(alloc, right, probe, image)? {
         Found::Commits(number) if number >= least => {
-            wrong_rested(alloc, right, probe, image, number)
+            wrong_rested::<E>(alloc, right, probe, image, number)
         }
         _ => Ok(Some("other rows")),
     }
 }
 
 // Judges each image of a run.
-fn judge_images(
+fn judge_images<E: Engine>(
     alloc: Global,
     setup: &Setup,
     right: &Right,
@@ -237,14 +236,14 @@ fn judge_images(
     let mut last = u64::MAX;
     for taken in ran.seen.images.iter() {
         let least = owed(setup, ran, right, taken.calls as usize);
-        let wrong = judge_image(alloc, right, probe, &taken.image, least)?;
+        let wrong = judge_image::<E>(alloc, right, probe, &taken.image, least)?;
         swept.count(taken.calls != last, wrong);
         last = taken.calls;
     }
     Ok(())
 }
 
-fn judge_part(
+fn judge_part<E: Engine>(
     alloc: Global,
     setup: &Setup,
     right: &Right,
@@ -252,13 +251,13 @@ fn judge_part(
     probe: &Probe,
     swept: &mut Swept,
 ) -> Result<(), OutOfMemory> {
-    let ran = play(alloc, setup, part_of(part))?;
-    let done = judge_images(alloc, setup, right, &ran, probe, swept);
+    let ran = E::play(alloc, setup, part_of(part))?;
+    let done = judge_images::<E>(alloc, setup, right, &ran, probe, swept);
     drop(ran);
     done
 }
 
-fn judge_parts(
+fn judge_parts<E: Engine>(
     alloc: Global,
     setup: &Setup,
     right: &Right,
@@ -267,21 +266,21 @@ fn judge_parts(
     swept: &mut Swept,
 ) -> Result<(), OutOfMemory> {
     for part in 0..=calls / PART {
-        judge_part(alloc, setup, right, part, probe, swept)?;
+        judge_part::<E>(alloc, setup, right, part, probe, swept)?;
     }
     Ok(())
 }
 
 /// Judges the images that a crash leaves after each number of calls of a run, each also behind undo and the cleaner.
-pub fn sweep_rested(
+pub fn sweep_rested<E: Engine>(
     alloc: Global,
     setup: &Setup,
     right: &Right,
     swept: &mut Swept,
 ) -> Result<(), OutOfMemory> {
-    let calls = calls_of(alloc, setup)?;
+    let calls = calls_of::<E>(alloc, setup)?;
     let probe = Probe::new(alloc, right)?;
-    let done = judge_parts(alloc, setup, right, calls, &probe, swept);
+    let done = judge_parts::<E>(alloc, setup, right, calls, &probe, swept);
     drop(probe);
     done
 }
@@ -312,7 +311,7 @@ fn put_failing(alloc: Global, page: &mut Page, first: u64, last: u64, failing: F
 }
 
 // What is right after a run, if its text and its tape are.
-fn right_after(
+fn right_after<E: Engine>(
     alloc: Global,
     before: &Right,
     setup: &Setup,
@@ -324,11 +323,11 @@ fn right_after(
     if setup.is_command("init") {
         return Ok(Some(Right::empty(alloc, true)?));
     }
-    led_from(alloc, before, setup, ran)
+    led_from::<E>(alloc, before, setup, ran)
 }
 
 // How the run ends, and what its disk holds then.
-fn judge_failing(
+fn judge_failing<E: Engine>(
     alloc: Global,
     before: &Right,
     setup: &Setup,
@@ -340,9 +339,9 @@ fn judge_failing(
         held: None,
         without: false,
     };
-    match right_after(alloc, before, setup, ran)? {
+    match right_after::<E>(alloc, before, setup, ran)? {
         Some(right) => {
-            let held = held_by(alloc, &right, before.none, ran, failing);
+            let held = held_by::<E>(alloc, &right, before.none, ran, failing);
             drop(right);
             held
         }
@@ -350,7 +349,7 @@ fn judge_failing(
     }
 }
 
-fn held_by(
+fn held_by<E: Engine>(
     alloc: Global,
     right: &Right,
     was_none: bool,
@@ -361,7 +360,7 @@ fn held_by(
         return Ok(failing);
     };
     let mut judged = failing;
-    match found_alone(alloc, right, &taken.image)? {
+    match found_alone::<E>(alloc, right, &taken.image)? {
         Found::Commits(number) if right.has(number) => judged.held = Some(number),
         Found::Status(NO_DATABASE) => judged.without = was_none,
         _ => {}
@@ -370,7 +369,7 @@ fn held_by(
 }
 
 // A run once more, with one call that fails.
-fn fail_once(
+fn fail_once<E: Engine>(
     alloc: Global,
     setup: &mut Setup,
     before: &Right,
@@ -378,38 +377,42 @@ fn fail_once(
 ) -> Result<Failing, OutOfMemory> {
     let fails = one(alloc, number)?;
     let kept = mem::replace(&mut setup.disk_fails, fails);
-    let failing = play_failing(alloc, setup, before);
+    let failing = play_failing::<E>(alloc, setup, before);
     set(&mut setup.disk_fails, kept);
     failing
 }
 
-fn play_failing(alloc: Global, setup: &Setup, before: &Right) -> Result<Failing, OutOfMemory> {
-    let ran = play(alloc, setup, Ask::Last)?;
-    let failing = judge_failing(alloc, before, setup, &ran);
+fn play_failing<E: Engine>(
+    alloc: Global,
+    setup: &Setup,
+    before: &Right,
+) -> Result<Failing, OutOfMemory> {
+    let ran = E::play(alloc, setup, Ask::Last)?;
+    let failing = judge_failing::<E>(alloc, before, setup, &ran);
     drop(ran);
     failing
 }
 
 // How many device calls a run makes.
-fn calls_of(alloc: Global, setup: &Setup) -> Result<u64, OutOfMemory> {
-    let ran = play(alloc, setup, Ask::Last)?;
+fn calls_of<E: Engine>(alloc: Global, setup: &Setup) -> Result<u64, OutOfMemory> {
+    let ran = E::play(alloc, setup, Ask::Last)?;
     let calls = ran.seen.moments.len() as u64;
     drop(ran);
     Ok(calls)
 }
 
 /// Lets each device call of a run fail in turn, and judges what it says and leaves. Calls that end alike are one line.
-pub fn sweep_failures(
+pub fn sweep_failures<E: Engine>(
     alloc: Global,
     setup: &mut Setup,
     before: &Right,
     page: &mut Page,
 ) -> Result<(), OutOfMemory> {
-    let calls = calls_of(alloc, setup)?;
+    let calls = calls_of::<E>(alloc, setup)?;
     let mut first = 1u64;
     let mut last = None;
     for number in 1..=calls {
-        let failing = fail_once(alloc, setup, before, number)?;
+        let failing = fail_once::<E>(alloc, setup, before, number)?;
         if last != Some(failing) {
             put_group(alloc, page, first, number - 1, last);
             first = number;

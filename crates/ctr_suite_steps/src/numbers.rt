@@ -44,7 +44,7 @@ pub fn split_file(line: &[u8]) -> Option<(File, &[u8])> {
 }
 
 /// The numbers of a line; None where a word is none.
-pub fn numbers(alloc: Global, words: &[u8]) -> Result<Option<Vec<u64>>, AllocError> {
+pub fn numbers_of(alloc: Global, words: &[u8]) -> Result<Option<Vec<u64>>, AllocError> {
     numbers_in(alloc, words, 10)
 }
 

@@ -1,7 +1,6 @@
 // What is printed.
 ghost use Rattle.std.specs.Prelude.{◌≤◌, length};
 
-use ctr_mem_disk::Bytes;
 use std::alloc::{AllocError, Global};
 
 /// Bytes to be printed. Where memory was refused, it keeps that in mind, so that no call fails.
@@ -53,15 +52,6 @@ impl Page {
     /// A blank, and a byte by its two digits in base 16.
     pub fn put_hex(&mut self, alloc: Global, byte: u8) {
         self.put_text(format!(in alloc; " {byte:02x}"));
-    }
-
-    /// The bytes from a place to another, as far as there are any.
-    pub fn put_part(&mut self, alloc: Global, bytes: &Bytes, from: u64, to: u64) {
-        for at in from..to.min(bytes.len()) {
-            let mut byte = [0];
-            bytes.read(at, &mut byte);
-            self.put_hex(alloc, byte[0]);
-        }
     }
 
     /// A call and its file.
