@@ -1,7 +1,7 @@
 //! Rows by key: the search through the slots of a page and along a chain of pages, in which way a row is written and what its
 //! slot becomes, and the records that lay a slot, make a page empty and put one in front of a chain.
 //!
-//! Nothing here takes memory.
+//! Nothing here takes memory, but for the places of keys that the store remembers.
 #![tactic(auto)]
 
 mod buckets;

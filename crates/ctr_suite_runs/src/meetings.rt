@@ -305,17 +305,19 @@ fn meet<E: Engine>(
     }
 }
 
-/// Meets the scripts of these numbers, from the first to the last.
+/// Meets the scripts of these numbers, from the first to the last, and tells what was met, where it was so often at least.
 pub fn meet_each<E: Engine>(
     alloc: Global,
     image: &Image,
     right: &Right,
     (from, to): (u64, u64),
-    met: &mut Met,
+    least: u64,
     page: &mut Page,
 ) -> Result<(), OutOfMemory> {
+    let mut met = Met::new();
     for script in from..=to {
-        meet::<E>(alloc, image, right, script, met, page)?;
+        meet::<E>(alloc, image, right, script, &mut met, page)?;
     }
+    met.put(alloc, page, least);
     Ok(())
 }

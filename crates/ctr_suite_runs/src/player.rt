@@ -1,5 +1,5 @@
 // Plays the lines of a suite.
-use crate::meetings::{Met, meet_each};
+use crate::meetings::meet_each;
 use crate::reading::{put_bytes, put_lines, put_part};
 use crate::stopped::stop_each;
 use crate::sweep::{NO_DATABASE, sweep_failures, sweep_stops};
@@ -431,37 +431,14 @@ impl<E: Engine> Player<E> {
         let Some(last) = number(rest) else {
             return Ok(None);
         };
+        let numbers = (from, to);
+        let (image, right) = (&self.image, &self.right);
         if step == Step::Generated {
-            self.meet_generated((from, to), last)?;
+            meet_each::<E>(self.alloc, image, right, numbers, last, &mut self.page)?;
         } else {
-            self.stop_generated((from, to), last)?;
+            stop_each::<E>(self.alloc, image, right, numbers, last, &mut self.page)?;
         }
         Ok(Some(()))
-    }
-
-    fn meet_generated(&mut self, numbers: (u64, u64), least: u64) -> Result<(), OutOfMemory> {
-        let mut met = Met::new();
-        meet_each::<E>(
-            self.alloc,
-            &self.image,
-            &self.right,
-            numbers,
-            &mut met,
-            &mut self.page,
-        )?;
-        met.put(self.alloc, &mut self.page, least);
-        Ok(())
-    }
-
-    fn stop_generated(&mut self, numbers: (u64, u64), sessions: u64) -> Result<(), OutOfMemory> {
-        stop_each::<E>(
-            self.alloc,
-            &self.image,
-            &self.right,
-            numbers,
-            sessions,
-            &mut self.page,
-        )
     }
 
     fn read_record(&mut self, step: Step, rest: &[u8]) -> Result<Option<()>, OutOfMemory> {
