@@ -1,4 +1,5 @@
 // The turns of a World on threads, under one lock.
+ghost use Rattle.std.specs.Prelude.{◌≡◌};
 ghost use Rattle.ctr_workers.specs.Leads.{LeadsByTurns};
 ghost use Rattle.ctr_workers.specs.Workers.{IsActor};
 ghost use Rattle.ctr_world.specs.Turns.{EndsTurn};
