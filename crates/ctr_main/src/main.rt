@@ -6,17 +6,6 @@ ghost use Rattle.std.specs.String.{string_bytes};
 ghost use Rattle.std.specs.Process.{exit_status};
 ghost use Rattle.ctr_top.specs.Endings.{status_of};
 
-#[cfg(test)]
-mod drawn;
-#[cfg(test)]
-mod gates;
-#[cfg(test)]
-mod judge;
-#[cfg(test)]
-mod play;
-#[cfg(test)]
-mod threads;
-
 use ctr_file::FileDisk;
 use ctr_io::{ReadSource, WriteSink};
 use ctr_top::{Ended, OpenGate};
