@@ -1,6 +1,6 @@
 -- Bytes of a page that say the same numbers are checked alike, and a slot of them has the same key.
-use Rattle.std.proofs.Common.{◌≡◌, ◌≢◌, inl, inr, ⊎_elim, ℕ, ◌+◌, ◌-◌, ◌<◌, ◌≤◌, eqb, Bool, true, false, cond, List, [], ◌∷◌, length, drop, Option, None, Some, Result, Ok, Err, refl, sym, ◌∙◌, ap, subst, arith, length-drop}
-use Rattle.std.specs.Prelude.{⊤, ◌==◌}
+use Rattle.std.proofs.Common.{◌≡◌, inl, inr, ⊎_elim, ℕ, ◌+◌, ◌-◌, ◌<◌, ◌≤◌, eqb, Bool, true, false, cond, List, [], ◌∷◌, length, drop, None, Some, is_some, Result, Ok, refl, sym, ◌∙◌, ap, subst, arith, length-drop}
+use Rattle.std.specs.Prelude.{⊤, ◌==◌, ℤ}
 use Rattle.std.specs.Int.{w64, cast_signed}
 use Rattle.std.proofs.lemmas.List.{take-append-drop, length-take-le}
 use Rattle.ctr_rec.specs.bytes_Fields.{field}
@@ -17,7 +17,7 @@ use Rattle.ctr_page.specs.Damage.{counted_check, place_check, pointer_check, tex
 use Rattle.ctr_page.proofs.bytes_FieldLaws.{field-append, field-drop}
 use Rattle.ctr_page.proofs.Searches.{lies_on_page}
 use Rattle.ctr_directory.specs.declared.slots.Span.{Span}
-use Rattle.ctr_directory.specs.Keys.{key_on, key_before, slots_of_kinds, SlotsPass, SaysSameOutside, LiesOutside, SlotsStay}
+use Rattle.ctr_directory.specs.Keys.{key_on, slots_of_kinds, SlotsPass, SaysSameOutside, LiesOutside, SlotsStay}
 
 -- from a byte on, so many bytes say the same numbers
 abbrev Agree : ℕ → ℕ → List ℕ → List ℕ → Type 0
@@ -106,6 +106,23 @@ field_in_piece n k start size page fits there =
 wide : (b : Bool) (w : ℕ) → 9 ≤ cond b (9 + 9 + w + 9 + w) (9 + 9 + w) + 6
 wide true w = omega arith
 wide false w = omega arith
+
+some_by : (b : Bool) (key : ℤ) → is_some (cond b (Some key) None) ≡ b
+some_by true key = refl
+some_by false key = refl
+
+-- the first byte of a slot says whether it is used
+pub used_byte : (kinds : List Kind) (n : ℕ) (page : List ℕ) → length page ≡ 4096 → n < slots_of_kinds kinds → is_some (key_on kinds n page) ≡ (field 1 (slot_start kinds n) page == 1)
+used_byte kinds n page whole lt =
+    let size = slot_size (kinds_width kinds) in
+    let start = slot_start kinds n in
+    let w = kinds_width kinds in
+    let large = wide (has_previous w) w in
+    let lies = lies_on_page size n lt in
+    let here : start + 0 ≡ start = omega arith in
+    let used : (slot_at w n page).used ≡ field 1 start page =
+    field_in_piece 1 0 start size page (omega (arith, large)) (omega (arith, lies, whole)) ∙ ap (λ k. field 1 k page) here in
+    some_by ((slot_at w n page).used == 1) (slot_at w n page).key ∙ ap (λ u. u == 1) used
 
 module _ (kinds : List Kind) (counted : ℕ) (span : Span) (before after : List ℕ) (was : length before ≡ 4096) (is : length after ≡ 4096) (same : SaysSameOutside span before after) where
   agree_outside : (n : ℕ) → n < slots_of_kinds kinds → LiesOutside kinds span n → Agree (slot_start kinds n) (slot_size (kinds_width kinds)) before after

@@ -9,18 +9,19 @@ use Rattle.ctr_page.specs.declared.rows.Place.{Place}
 use Rattle.ctr_page.specs.Reading.{header_in}
 use Rattle.ctr_directory.specs.declared.remembered.Remembered.{Remembered}
 use Rattle.ctr_directory.specs.declared.slots.Span.{Span}
-use Rattle.ctr_directory.specs.Keys.{key_on, key_before, slots_of_kinds, SlotsPass, SlotsStay, KeysLead, over_slots}
+use Rattle.ctr_directory.specs.Keys.{key_on, key_before, slots_of_kinds, AllUsed, SlotsPass, SlotsStay, KeysLead, over_slots}
 use Rattle.ctr_directory.proofs.Agreeing.{all_stay}
-use Rattle.ctr_directory.specs.Chains.{RowPagePasses, RunsAlong, BucketSaid, kinds_kept, checks_of, keys_in, IsRememberedBucket, ChangesPage, is_page_of, TellsKey, IsPlaceTold, Knows}
+use Rattle.ctr_directory.specs.Chains.{RowPagePasses, RunsAlong, BucketSaid, kinds_kept, checks_of, keys_in, IsRememberedBucket, ChangesPage, is_page_of, SparesTell, TellsKey, IsPlaceTold, KnowsChain, Knows, KnowsFull}
 use Rattle.ctr_directory.proofs.Leading.{by_test, leads_same}
 use Rattle.ctr_directory.proofs.Along.{has_on, each_passes, runs_moved, runs_on}
 use Rattle.ctr_directory.proofs.Keeping.{its_key, no_key, page_changed, page_elsewhere}
+use Rattle.ctr_directory.proofs.Sparing.{spares_changed, spares_apart, none_is_in}
 
 module _ (counted : ℕ) (pages : ℕ → List ℕ) (s t : Remembered) (number : ℕ) (some : number ≢ 0) (old : IsRememberedBucket counted pages s)
-    (same : t ≡ record s { pages = t.pages; places = t.places }) (passes : RowPagePasses (checks_of counted s) (pages number))
+    (same : t ≡ record s { pages = t.pages; places = t.places; spare = t.spare }) (passes : RowPagePasses (checks_of counted s) (pages number))
     (added : (q : ℕ) → contains nat_eq t.pages q ≡ cond (number == q) true (contains nat_eq s.pages q))
     (long : (index_set_len t.pages ≡ index_set_len s.pages + 1) × (index_set_len t.pages + 3 ≤ counted))
-    (leads : KeysLead (keys_in t.pages (kinds_kept s) pages) t.places) where
+    (leads : KeysLead (keys_in t.pages (kinds_kept s) pages) t.places) (spares : SparesTell t.pages t.spare (kinds_kept s) pages) where
   -- in front of the others
   pub before_others : (number ≡ s.first) → ((header_in (pages number)).next ≡ s.head) → IsRememberedBucket counted pages (record t { head = number })
   before_others first next =
@@ -32,6 +33,7 @@ module _ (counted : ℕ) (pages : ℕ → List ℕ) (s t : Remembered) (number :
         long = omega (arith, long.0, old.long);
         there = λ p. added p ∙ ap (λ b. cond (number == p) true b) (old.there p);
         leads = leads;
+        spares = spares;
       })
 
   -- behind them
@@ -47,6 +49,7 @@ module _ (counted : ℕ) (pages : ℕ → List ℕ) (s t : Remembered) (number :
         long = omega (arith, longer, long.0, old.long);
         there = λ p. added p ∙ ap (λ b. cond (number == p) true b) (old.there p) ∙ sym (has_on p number old.chain);
         leads = leads;
+        spares = spares;
       })
 
 -- one page has other bytes
@@ -66,9 +69,10 @@ module _ (counted number : ℕ) (span : Span) (before after : List ℕ) (a b : �
 
   module _ (t : Remembered) (said : BucketSaid counted s.entry s.bucket (b (1 + s.entry / 16)) (kinds_kept s) t.first) where
     -- it is one of the chain's
-    pub page_renewed : t ≡ record s { first = t.first; places = t.places } → contains nat_eq s.pages number ≡ true → RowPagePasses (checks_of counted s) after → (header_in after).next ≡ (header_in before).next
-        → KeysLead (over_slots number (slots_of_kinds (kinds_kept s)) (λ n. key_on (kinds_kept s) n after) (keys_in s.pages (kinds_kept s) a)) t.places → IsRememberedBucket counted b t
-    page_renewed same is passes next leads =
+    pub page_renewed : t ≡ record s { first = t.first; places = t.places; spare = t.spare } → contains nat_eq s.pages number ≡ true → RowPagePasses (checks_of counted s) after → (header_in after).next ≡ (header_in before).next
+        → KeysLead (over_slots number (slots_of_kinds (kinds_kept s)) (λ n. key_on (kinds_kept s) n after) (keys_in s.pages (kinds_kept s) a)) t.places
+        → (contains nat_eq t.spare number ≡ false → AllUsed (kinds_kept s) after) → ((q : ℕ) → q ≢ number → contains nat_eq t.spare q ≡ contains nat_eq s.spare q) → IsRememberedBucket counted b t
+    page_renewed same is passes next leads full others =
         subst (λ (x : Remembered). IsRememberedBucket counted b x) (sym same) (record {
           said = said;
           chain = old.chain;
@@ -79,6 +83,7 @@ module _ (counted number : ℕ) (span : Span) (before after : List ℕ) (a b : �
           leads = leads_same (over_slots number (slots_of_kinds (kinds_kept s)) (λ n. key_on (kinds_kept s) n (b number)) (keys_in s.pages (kinds_kept s) a)) (keys_in s.pages (kinds_kept s) b) t.places
               (page_changed s.pages (kinds_kept s) a b number is changes.others)
               (subst (λ page. KeysLead (over_slots number (slots_of_kinds (kinds_kept s)) (λ n. key_on (kinds_kept s) n page) (keys_in s.pages (kinds_kept s) a)) t.places) (sym changes.is) leads);
+          spares = spares_changed s.pages s.spare t.spare (kinds_kept s) a b number after changes.is changes.others full others old.spares;
         })
       where
         at_page : (q : ℕ) → q ≡ number → RowPagePasses (checks_of counted s) (b q) × ((header_in (b q)).next ≡ (header_in (a q)).next)
@@ -105,6 +110,7 @@ module _ (counted number : ℕ) (span : Span) (before after : List ℕ) (a b : �
           long = old.long;
           there = old.there;
           leads = leads_same (keys_in s.pages (kinds_kept s) a) (keys_in s.pages (kinds_kept s) b) s.places (page_elsewhere s.pages (kinds_kept s) a b number isnt changes.others) old.leads;
+          spares = spares_apart s.pages s.spare (kinds_kept s) a b number isnt changes.others old.spares;
         })
       where
         each : (q : ℕ) → is_page_of q old.chain ≡ true → RowPagePasses (checks_of counted s) (a q) → RowPagePasses (checks_of counted s) (b q) × ((header_in (b q)).next ≡ (header_in (a q)).next)
@@ -113,6 +119,24 @@ module _ (counted number : ℕ) (span : Span) (before after : List ℕ) (a b : �
             (subst (λ page. RowPagePasses (checks_of counted s) page) (sym stays) passed, ap (λ page. (header_in page).next) stays)
 
 -- all of the chain was read
+knows_chain : (counted : ℕ) (pages : ℕ → List ℕ) (s : Remembered) → IsRememberedBucket counted pages s → s.head ≡ s.first → s.rest ≡ 0 → KnowsChain counted pages s.entry s.bucket
+knows_chain counted pages s old whole end = record {
+  kinds = kinds_kept s;
+  first = s.first;
+  chain = old.chain;
+  said = old.said;
+  runs = subst (λ p. RunsAlong (RowPagePasses (checks_of counted s)) pages p old.chain 0) whole (subst (λ q. RunsAlong (RowPagePasses (checks_of counted s)) pages s.head old.chain q) end old.runs);
+  few = old.few;
+}
+
+-- and none of its pages may have a free slot
+pub knows_full : (counted : ℕ) (pages : ℕ → List ℕ) (s : Remembered) → IsRememberedBucket counted pages s → s.head ≡ s.first → s.rest ≡ 0 → index_set_len s.spare ≡ 0 → KnowsFull counted pages s.entry s.bucket
+unfolding knows_chain
+knows_full counted pages s old whole end none = record {
+  all = knows_chain counted pages s old whole end;
+  full = λ p in_. old.spares p (old.there p ∙ in_) (none_is_in s.spare none p);
+}
+
 module _ (counted : ℕ) (pages : ℕ → List ℕ) (s : Remembered) (old : IsRememberedBucket counted pages s) (whole : s.head ≡ s.first) (end : s.rest ≡ 0) (key : ℤ) where
   tells : (found : Option Place) → found ≡ get int_eq s.places key → TellsKey (kinds_kept s) pages old.chain key found
   tells found is at in_ lt has = is ∙ (old.leads key at).1 (its_key s.pages (kinds_kept s) pages at.page at.slot (old.there at.page ∙ in_) lt ∙ has)
@@ -128,13 +152,5 @@ module _ (counted : ℕ) (pages : ℕ → List ℕ) (s : Remembered) (old : IsRe
       (λ out. absurd (let e : None ≡ Some key = sym (no_key s.pages (kinds_kept s) pages at.page at.slot out) ∙ has in cc))
 
   pub knows : (found : Option Place) → found ≡ get int_eq s.places key → Knows counted pages s.entry s.bucket key found
-  knows found is = record {
-    kinds = kinds_kept s;
-    first = s.first;
-    chain = old.chain;
-    said = old.said;
-    runs = subst (λ p. RunsAlong (RowPagePasses (checks_of counted s)) pages p old.chain 0) whole (subst (λ q. RunsAlong (RowPagePasses (checks_of counted s)) pages s.head old.chain q) end old.runs);
-    few = old.few;
-    tells = tells found is;
-    told = told found is;
-  }
+  unfolding knows_chain
+  knows found is = record { all = knows_chain counted pages s old whole end; tells = tells found is; told = told found is }

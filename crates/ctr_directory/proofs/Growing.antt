@@ -1,5 +1,5 @@
 -- What passes its checks passes them where more pages are counted, so what is remembered is exact still.
-use Rattle.std.proofs.Common.{◌≡◌, ⊎_elim, ℕ, zero, suc, ◌+◌, ◌-◌, ◌*◌, ◌≤◌, ◌==◌, Bool, true, false, cond, List, [], ◌∷◌, length, Result, Ok, Err, refl, sym, ◌∙◌, ap, subst, arith}
+use Rattle.std.proofs.Common.{◌≡◌, ⊎_elim, ℕ, zero, suc, ◌+◌, ◌-◌, ◌*◌, ◌≤◌, ◌==◌, Bool, true, false, cond, List, [], ◌∷◌, Result, Ok, Err, refl, sym, ◌∙◌, ap, subst, arith}
 use Rattle.std.specs.Prelude.{⊤, ◌/◌, ◌%◌}
 use Rattle.std.proofs.lemmas.Bool.{cases_lt, le-ltb, lt-ltb}
 use Rattle.ctr_rec.specs.bytes_Fields.{field}
@@ -15,7 +15,6 @@ use Rattle.ctr_page.specs.Columns.{kinds_width, slot_start}
 use Rattle.ctr_page.specs.Reading.{header_in}
 use Rattle.ctr_directory.specs.declared.directory.Directory.{Directory}
 use Rattle.ctr_directory.specs.declared.remembered.Remembered.{Remembered}
-use Rattle.ctr_directory.specs.Keys.{slots_of_kinds}
 use Rattle.ctr_directory.specs.Chains.{RowPagePasses, RunsAlong, kinds_kept, checks_of, IsRememberedBucket}
 use Rattle.ctr_directory.specs.Exact.{IsExact}
 
@@ -104,6 +103,7 @@ module _ (counted more : ℕ) (le : counted ≤ more) where
     long = old.long;
     there = old.there;
     leads = old.leads;
+    spares = old.spares;
   }
 
   pub exact_more : (pages : ℕ → List ℕ) (d : Directory) → IsExact counted pages d → IsExact more pages d

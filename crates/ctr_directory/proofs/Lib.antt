@@ -1,6 +1,7 @@
 pub mod Leading
 pub mod Along
 pub mod Keeping
+pub mod Sparing
 pub mod Buckets
 pub mod Stepping
 pub mod Agreeing

@@ -11,7 +11,7 @@ use Rattle.ctr_page.specs.Columns.{entry_at, first_in, columns_in, kinds_of}
 use Rattle.ctr_page.specs.Damage.{header_check, entry_check}
 use Rattle.ctr_directory.specs.declared.remembered.Remembered.{Remembered}
 use Rattle.ctr_directory.specs.declared.slots.Span.{Span}
-use Rattle.ctr_directory.specs.Keys.{key_on, slots_of_kinds, SlotsPass, SaysSameOutside, KeysLead}
+use Rattle.ctr_directory.specs.Keys.{key_on, slots_of_kinds, AllUsed, SlotsPass, SaysSameOutside, KeysLead}
 
 -- by which checks the pages of a chain are read: the chain, the kinds of the columns behind the
 -- key, and how many pages are counted
@@ -67,9 +67,14 @@ abbrev pub keys_in : {S : Type 0} → IndexSet ℕ S → List Kind → (ℕ → 
 keys_in set kinds pages p n =
     if contains nat_eq set p && nat_lt n (slots_of_kinds kinds) then key_on kinds n (pages p) else None
 
+-- Of the pages of a set, those outside of another set have no free slot.
+abbrev pub SparesTell : {S T : Type 0} → IndexSet ℕ S → IndexSet ℕ T → List Kind → (ℕ → List ℕ) → Type 0
+SparesTell set spare kinds pages =
+    (p : ℕ) → contains nat_eq set p ≡ true → contains nat_eq spare p ≡ false → AllUsed kinds (pages p)
+
 -- A bucket is remembered as its pages are: what the catalog says of it; its chain from the head on
--- along the pages that were read, which are no more than a chain can have; and where each of their
--- keys stands.
+-- along the pages that were read, which are no more than a chain can have; where each of their keys
+-- stands; and which of them may have a free slot.
 pub record IsRememberedBucket (counted : ℕ) (pages : ℕ → List ℕ) (b : Remembered) : Type 0 where
   pub said : BucketSaid counted b.entry b.bucket (pages (1 + b.entry / 16)) (kinds_kept b) b.first
   pub chain : List ℕ
@@ -78,6 +83,7 @@ pub record IsRememberedBucket (counted : ℕ) (pages : ℕ → List ℕ) (b : Re
   pub long : length chain ≡ index_set_len b.pages
   pub there : (p : ℕ) → contains nat_eq b.pages p ≡ is_page_of p chain
   pub leads : KeysLead (keys_in b.pages (kinds_kept b) pages) b.places
+  pub spares : SparesTell b.pages b.spare (kinds_kept b) pages
 
 -- what is remembered is exact
 abbrev pub IsRemembered : ℕ → (ℕ → List ℕ) → Remembered → Type 0
@@ -99,9 +105,8 @@ IsPlaceTold kinds pages chain key (Some at) =
     × (key_on kinds at.slot (pages at.page) ≡ Some key)
 
 -- The whole chain of a bucket passes its checks, from the first page that the catalog says on to
--- the end; and a key is told of all of it.
-pub record Knows (counted : ℕ) (pages : ℕ → List ℕ) (e bucket : ℕ) (key : ℤ) (found : Option Place)
-    : Type 0 where
+-- the end.
+pub record KnowsChain (counted : ℕ) (pages : ℕ → List ℕ) (e bucket : ℕ) : Type 0 where
   pub kinds : List Kind
   pub first : ℕ
   pub chain : List ℕ
@@ -109,8 +114,18 @@ pub record Knows (counted : ℕ) (pages : ℕ → List ℕ) (e bucket : ℕ) (ke
   pub runs : RunsAlong (RowPagePasses (record { chain = Rows e bucket; kinds = kinds; counted = counted }))
       pages first chain 0
   pub few : length chain + 3 ≤ counted
-  pub tells : TellsKey kinds pages chain key found
-  pub told : IsPlaceTold kinds pages chain key found
+
+-- A key is told of the whole chain of a bucket.
+pub record Knows (counted : ℕ) (pages : ℕ → List ℕ) (e bucket : ℕ) (key : ℤ) (found : Option Place)
+    : Type 0 where
+  pub all : KnowsChain counted pages e bucket
+  pub tells : TellsKey all.kinds pages all.chain key found
+  pub told : IsPlaceTold all.kinds pages all.chain key found
+
+-- The whole chain of a bucket has no free slot.
+pub record KnowsFull (counted : ℕ) (pages : ℕ → List ℕ) (e bucket : ℕ) : Type 0 where
+  pub all : KnowsChain counted pages e bucket
+  pub full : (p : ℕ) → is_page_of p all.chain ≡ true → AllUsed all.kinds (pages p)
 
 -- one page has other bytes now, from one place up to another
 pub record ChangesPage (number : ℕ) (span : Span) (before after : List ℕ) (a b : ℕ → List ℕ)

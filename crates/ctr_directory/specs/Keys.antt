@@ -1,5 +1,5 @@
 -- The keys of the slots of pages, and a map that leads from each to its place.
-use Rattle.std.specs.Prelude.{◌≡◌, ◌↔◌, ◌<◌, ◌≤◌, ◌⊎◌, ◌+◌, ℕ, ◌==◌, ◌&&◌, nat_lt, ℤ, List, Option, None, Some, Ok, length, if◌then◌else◌}
+use Rattle.std.specs.Prelude.{◌≡◌, ◌↔◌, ◌<◌, ◌≤◌, ◌⊎◌, ◌+◌, ℕ, ◌==◌, ◌&&◌, nat_lt, ℤ, List, Option, None, Some, is_some, true, Ok, length, if◌then◌else◌}
 use Rattle.std.specs.Ordering.{int_eq}
 use Rattle.indexmap.specs.IndexMap.{IndexMap, get}
 use Rattle.ctr_rec.specs.types_Kind.{Kind}
@@ -28,6 +28,11 @@ key_on kinds n page = slot_key (slot_at (kinds_width kinds) n page)
 -- The key of a slot of a page as it was, which had no slots where it had no bytes.
 abbrev pub key_before : List Kind → ℕ → List ℕ → Option ℤ
 key_before kinds n page = if length page == 0 then None else key_on kinds n page
+
+-- each slot of a page is used
+abbrev pub AllUsed : List Kind → List ℕ → Type 0
+AllUsed kinds page =
+    (n : ℕ) → n < slots_of_kinds kinds → is_some (key_on kinds n page) ≡ true
 
 -- the first so many slots of a page pass their checks
 abbrev pub SlotsPass : List Kind → ℕ → ℕ → List ℕ → Type 0

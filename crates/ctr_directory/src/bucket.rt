@@ -4,12 +4,13 @@ ghost use Rattle.indexmap.specs.IndexSet.{contains, index_set_len};
 ghost use Rattle.ctr_page.specs.declared.checks.Chain.TheVariants.{Rows};
 ghost use Rattle.ctr_page.specs.declared.table.TheConstants.{PAGE_SIZE};
 ghost use Rattle.ctr_page.specs.Reading.{header_in};
-ghost use Rattle.ctr_directory.specs.Chains.{kinds_kept, checks_of, keys_in, BucketSaid, IsRememberedBucket, IsRemembered, RowPagePasses, Knows, ChangesPage};
+ghost use Rattle.ctr_directory.specs.Chains.{kinds_kept, checks_of, keys_in, BucketSaid, IsRememberedBucket, IsRemembered, RowPagePasses, Knows, KnowsFull, SparesTell, ChangesPage};
 ghost use Rattle.ctr_directory.specs.declared.slots.Span.{Span as AnySpan};
 ghost use Rattle.ctr_directory.specs.Keys.{KeysLead};
 
 use crate::remembered::Remembered;
 use crate::slots::{Span, renew};
+use crate::spare::note;
 use ctr_page::{Chain, EntryState, Place, check_entry, check_header, read_entry, read_header};
 use ctr_rec::{Kind, PageNo};
 
@@ -124,7 +125,9 @@ impl Remembered {
         ensures long { IfSome result (λ _. (index_set_len self.new.pages ≡ index_set_len self.old.pages + 1) × (index_set_len self.new.pages + 3 ≤ counted)) }
         ensures leads { IfSome result (λ _. (pages : ℕ → List ℕ) → pages number ≡ page.now → KeysLead (keys_in self.old.pages (kinds_kept self.old) pages) self.old.places
             → KeysLead (keys_in self.new.pages (kinds_kept self.old) pages) self.new.places) }
-        ensures same { self.new ≡ record self.old { pages = self.new.pages; places = self.new.places } }
+        ensures spares { IfSome result (λ _. (pages : ℕ → List ℕ) → pages number ≡ page.now → SparesTell self.old.pages self.old.spare (kinds_kept self.old) pages
+            → SparesTell self.new.pages self.new.spare (kinds_kept self.old) pages) }
+        ensures same { self.new ≡ record self.old { pages = self.new.pages; places = self.new.places; spare = self.new.spare } }
     {
         if check_header(self.chain(), counted, page).is_err() {
             return None;
@@ -137,15 +140,12 @@ impl Remembered {
             Ok(true) => {}
             _ => return None,
         }
-        match renew(
-            &mut self.places,
-            number,
-            &self.kinds[..self.count],
-            counted,
-            WHOLE,
-            &[],
-            page,
-        ) {
+        let kinds = &self.kinds[..self.count];
+        match renew(&mut self.places, number, kinds, counted, WHOLE, &[], page) {
+            Ok(()) => {}
+            Err(_) => return None,
+        }
+        match note(&mut self.spare, number, kinds, page) {
             Ok(()) => Some(next),
             Err(_) => None,
         }
@@ -253,6 +253,10 @@ impl Remembered {
         }
         let kinds = &self.kinds[..self.count];
         match renew(&mut self.places, number, kinds, counted, span, before, page) {
+            Ok(()) => {}
+            Err(_) => return false,
+        }
+        match note(&mut self.spare, number, kinds, page) {
             Ok(()) => true,
             Err(_) => false,
         }
@@ -309,5 +313,15 @@ impl Remembered {
             return None;
         }
         Some(self.places.get(&key).copied())
+    }
+
+    /// Whether all of the bucket's chain is remembered, and none of its pages has a free slot.
+    pub fn is_full(&self) -> bool
+        ensures { (counted : ℕ) (pages : ℕ → List ℕ) → IsRemembered counted pages self.now → result ≡ true → KnowsFull counted pages self.now.entry self.now.bucket }
+    {
+        if !self.known || self.head != self.first || self.rest != 0 {
+            return false;
+        }
+        self.spare.is_empty()
     }
 }

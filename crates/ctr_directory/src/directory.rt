@@ -3,7 +3,7 @@ ghost use Rattle.std.specs.Prelude.{◌≡◌, ◌≤◌, ◌<◌, ◌+◌, ◌/
 ghost use Rattle.ctr_page.specs.declared.table.TheConstants.{PAGE_SIZE};
 ghost use Rattle.ctr_page.specs.Places.{bucket_of as bucket_by};
 ghost use Rattle.ctr_directory.specs.Exact.{IsExact};
-ghost use Rattle.ctr_directory.specs.Chains.{IsRemembered, Knows, ChangesPage};
+ghost use Rattle.ctr_directory.specs.Chains.{IsRemembered, Knows, KnowsFull, ChangesPage};
 
 use crate::remembered::Remembered;
 use crate::slots::Span;
@@ -120,6 +120,22 @@ impl Directory {
             return None;
         }
         found.find(key)
+    }
+
+    /// Whether no slot of a table's bucket is free, where all of the bucket's chain is remembered; false where it isn't.
+    pub fn is_full(&self, entry: u8, bucket: u8) -> bool
+        requires { (entry < 32) × (bucket < 8) }
+        ensures { (counted : ℕ) (pages : ℕ → List ℕ) → IsExact counted pages self.now → result ≡ true → KnowsFull counted pages entry bucket }
+    {
+        let number = number_of(entry, bucket);
+        if number >= self.buckets.len() {
+            return false;
+        }
+        let found = &self.buckets[number];
+        if found.entry != entry || found.bucket != bucket {
+            return false;
+        }
+        found.is_full()
     }
 
     /// The page that is to be read next, so that all of a bucket's chain is remembered: the one of the catalog that has the table's

@@ -6,6 +6,7 @@ mod directory;
 mod laws;
 mod remembered;
 mod slots;
+mod spare;
 
 pub use ctr_page::{Place, bucket_of};
 pub use directory::{Directory, MOST_KEYS};

@@ -27,6 +27,8 @@ pub struct Remembered {
     pub pages: IndexSet<PageNo>,
     /// Where each of their keys stands.
     pub places: IndexMap<i64, Place>,
+    /// Those of the pages that have a free slot.
+    pub spare: IndexSet<PageNo>,
     ghost there: { (entry < 32) × (bucket < 8) × (count ≤ 7) },
 }
 
@@ -46,6 +48,7 @@ impl Remembered {
             rest: 0,
             pages: IndexSet::new(alloc),
             places: IndexMap::new(alloc),
+            spare: IndexSet::new(alloc),
         }
     }
 
@@ -58,6 +61,7 @@ impl Remembered {
         let alloc = *self.places.allocator();
         self.pages = IndexSet::new(alloc);
         self.places = IndexMap::new(alloc);
+        self.spare = IndexSet::new(alloc);
     }
 
     /// How many keys it has.

@@ -62,7 +62,7 @@ fn key_before(kinds: &[Kind], slot: u16, before: &[u8]) -> Option<i64>
 }
 
 /// How many slots a page has.
-fn slots_on(kinds: &[Kind]) -> u16
+pub(crate) fn slots_on(kinds: &[Kind]) -> u16
     requires few { length kinds.now ≤ 7 }
     ensures { result ≡ slots_of_kinds kinds.now }
 {

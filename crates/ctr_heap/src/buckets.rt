@@ -9,7 +9,7 @@ ghost use Rattle.ctr_walk.specs.Damage.{damage_told, EndsTold, ReadsPages};
 ghost use Rattle.ctr_heap.specs.Finding.{EndsBucket, FindsKey, FindsFree, slots_on_page};
 
 use crate::found::{a_search_tells_a_free_slot, a_search_tells_the_key};
-use crate::recalled::recall;
+use crate::recalled::{recall, recall_full};
 use crate::slots::SlotSought;
 use ctr_disk::{Disk, StoreFault};
 use ctr_page::{Chain, Place, bucket_of};
@@ -43,7 +43,7 @@ pub fn find<D: Disk, O: Origin>(
     search_chain(store, Chain::Rows { entry, bucket }, &SlotSought::Key(key))
 }
 
-/// The first free slot of a bucket of a table, likewise.
+/// The first free slot of a bucket of a table, likewise. Where all pages of the bucket are remembered and have none, no page is searched.
 pub fn free_slot<D: Disk, O: Origin>(
     store: &mut Store<D, O>,
     entry: u8,
@@ -61,5 +61,8 @@ pub fn free_slot<D: Disk, O: Origin>(
 {
     a_search_tells_a_free_slot();
     store.counts_pages();
+    if recall_full(store, entry, bucket)? {
+        return Ok(None);
+    }
     search_chain(store, Chain::Rows { entry, bucket }, &SlotSought::Free)
 }

@@ -21,7 +21,7 @@ ghost use Rattle.ctr_store.specs.declared.store.Generation.TheVariants.{Begun};
 ghost use Rattle.ctr_store.specs.Checkpoints.{checkpoint_need};
 ghost use Rattle.ctr_store.specs.Generations.{IsDue, MayBegin, AnswersBegin, ShowsSame, AddsCheckpoint, RefusesCheckpoint, CanEnd, AnswersEnd, NamesCurrent};
 ghost use Rattle.ctr_store.specs.StoreOpening.{AnswersStore, IsOpened, store_left};
-ghost use Rattle.ctr_directory.specs.Chains.{Knows};
+ghost use Rattle.ctr_directory.specs.Chains.{Knows, KnowsFull};
 ghost use Rattle.ctr_directory.specs.page_Places.{bucket_of as bucket_by};
 
 use crate::checkpoint::{FIRST_PLACE, Unmade, file_behind, spell_checkpoint};
@@ -29,7 +29,7 @@ use crate::opening::BUFFER_BYTES;
 use crate::parts::Parts;
 use crate::seen::damage_at;
 use ctr_base::{Lsn, Meta, OpenError, Origin};
-use ctr_directory::{Directory, Place, bucket_of, growth_keeps_all};
+use ctr_directory::{Directory, Place, growth_keeps_all};
 use ctr_disk::{Disk, StoreFault};
 use ctr_rec::{PageNo, Record};
 use ctr_types::OutOfMemory;
@@ -119,14 +119,13 @@ impl<D: Disk, O: Origin> Store<D, O> {
         Ok(self.parts.bytes(page))
     }
 
-    /// Reads one page more of those by which all keys of a key's bucket are remembered: the page of the catalog that has the table's
+    /// Reads one page more of those by which all slots of a table's bucket are remembered: the page of the catalog that has the table's
     /// entry, or the next one of the bucket's chain. It answers false where none is left, or where they can't be remembered.
-    pub fn read_on(&mut self, entry: u8, key: i64) -> Result<bool, StoreFault>
+    pub fn read_on(&mut self, entry: u8, bucket: u8) -> Result<bool, StoreFault>
         requires going { self.old.stopped ≡ false }
-        requires there { entry < 32 }
+        requires there { (entry < 32) × (bucket < 8) }
         ensures leaves { LeavesPage O.first D.Disk self.old self.new result }
     {
-        let bucket = bucket_of(key);
         let Some(page) = self.directory.wanted(entry, bucket) else {
             return Ok(false);
         };
@@ -156,6 +155,14 @@ impl<D: Disk, O: Origin> Store<D, O> {
             }
         }
         Some(found)
+    }
+
+    /// Whether no slot of a table's bucket is free, where all pages of that are remembered; false where they aren't.
+    pub fn recalls_full(&self, entry: u8, bucket: u8) -> bool
+        requires { (entry < 32) × (bucket < 8) }
+        ensures { WhereSound O.first D.Disk (self.now.stopped ≡ false → result ≡ true → KnowsFull self.now.now.counted (λ p. page_at p self.now.now.pages) entry bucket) }
+    {
+        self.directory.is_full(entry, bucket)
     }
 
     /// Where the home begins in the file of pages whose value a page is. It is the first home where none is open, where the page

@@ -1,4 +1,4 @@
-use Rattle.std.proofs.Common.{List, arith, sym, subst, length}
+use Rattle.std.proofs.Common.{List, arith, sym, subst}
 use Rattle.std.specs.List.{All}
 use Rattle.ctr_directory.specs.declared.remembered.Remembered.{Remembered}
 use Rattle.ctr_directory.specs.Chains.{IsRemembered}

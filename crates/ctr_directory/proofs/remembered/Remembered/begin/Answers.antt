@@ -1,6 +1,7 @@
-use Rattle.std.proofs.Common.{[], length, take, refl, sym, ap, subst, arith}
+use Rattle.std.proofs.Common.{[], length, take, refl, sym, ◌∙◌, ap, subst, arith}
 use Rattle.std.specs.Prelude.{nat_eq}
 use Rattle.std.specs.List.{list_any}
+use Rattle.std.proofs.lemmas.Bool.{false≢true}
 use Rattle.ctr_directory.specs.Chains.{BucketSaid}
 use Rattle.ctr_directory.proofs.Keeping.{none_there}
 use Rattle.ctr_directory.proofs.remembered.Remembered.begin.Goals as goal
@@ -17,4 +18,5 @@ returns c = λ pages is known.
       long = sym (ap length c.forget.ensures.empty.0);
       there = λ p. ap (λ ks. list_any (nat_eq p) ks) c.forget.ensures.empty.0;
       leads = none_there t.pages t.places kinds pages c.forget.ensures.empty.0 c.forget.ensures.empty.1;
+      spares = λ p in_ out. absurd (false≢true (sym (ap (λ ks. list_any (nat_eq p) ks) c.forget.ensures.empty.0) ∙ in_));
     }

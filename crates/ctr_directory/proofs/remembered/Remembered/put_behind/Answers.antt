@@ -10,5 +10,5 @@ returns-in-Some c = λ pages is yes old.
     let e = c.in-Some.ensures in
     let to : c.in-Some.next ≡ (header_in (pages s.rest)).next = e.next ∙ ap (λ page. (header_in page).next) (sym is) in
     let x = behind_others c.args.counted pages s c.take_page.new.self s.rest c.requires.rest old c.take_page.ensures.same
-    (subst (λ page. RowPagePasses (checks_of c.args.counted s) page) (sym is) e.passes) e.added e.long (e.leads pages is old.leads) c.in-Some.next refl to in
-    record { said = x.said; chain = x.chain; runs = x.runs; few = x.few; long = x.long; there = x.there; leads = x.leads }
+    (subst (λ page. RowPagePasses (checks_of c.args.counted s) page) (sym is) e.passes) e.added e.long (e.leads pages is old.leads) (e.spares pages is old.spares) c.in-Some.next refl to in
+    record { said = x.said; chain = x.chain; runs = x.runs; few = x.few; long = x.long; there = x.there; leads = x.leads; spares = x.spares }
