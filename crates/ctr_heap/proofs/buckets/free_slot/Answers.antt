@@ -26,17 +26,17 @@ returns-in_err-recall_full-clause-leaves g c =
 
 -- ---- no slot is free, as is remembered
 
-pub returns-then-recall_full-clause-ends : goal.returns-then-recall_full-clause-ends
-returns-then-recall_full-clause-ends g c = λ told sound. c.in_ok-recall_full.ensures.ends told sound c.if-recall_full.true
+pub returns-then-branch-clause-ends : goal.returns-then-branch-clause-ends
+returns-then-branch-clause-ends g c = λ told sound. c.in_ok-recall_full.ensures.ends told sound c.if-branch.true
 
-pub returns-then-recall_full-clause-finds : goal.returns-then-recall_full-clause-finds
-returns-then-recall_full-clause-finds g c = λ told sound readable.
+pub returns-then-branch-clause-finds : goal.returns-then-branch-clause-finds
+returns-then-branch-clause-finds g c = λ told sound readable.
     let s = c.args.store.now.now in
     told_finds s.counted (pages_in s) (Rows c.args.entry c.args.bucket) (EndsSlots Free) (damage_told g.D.Disk c.recall_full.new.store) (FindsFree (area_in s) c.args.entry c.args.bucket) (Ok None)
-    (free_told (pages_in s) c.args.entry s.counted 0 readable (bounded s.counted c.counts_pages.ensures.1) c.args.bucket) (returns-then-recall_full-clause-ends g c told sound)
+    (free_told (pages_in s) c.args.entry s.counted 0 readable (bounded s.counted c.counts_pages.ensures.1) c.args.bucket) (returns-then-branch-clause-ends g c told sound)
 
-pub returns-then-recall_full-clause-leaves : goal.returns-then-recall_full-clause-leaves
-returns-then-recall_full-clause-leaves g c = answers_ok g.O.Origin.first g.D.Disk c.in_ok-recall_full.field-0 None c.args.store.now c.recall_full.new.store c.in_ok-recall_full.ensures.leaves
+pub returns-then-branch-clause-leaves : goal.returns-then-branch-clause-leaves
+returns-then-branch-clause-leaves g c = answers_ok g.O.Origin.first g.D.Disk c.in_ok-recall_full.field-0 None c.args.store.now c.recall_full.new.store c.in_ok-recall_full.ensures.leaves
 
 -- ---- the bucket is searched
 
