@@ -223,7 +223,7 @@ fn open_at<D: Disk, O: Origin>(
 }
 
 /// What is known of a version entry by what was found along its row's chain.
-fn looseness(found: ChainFound) -> Looseness
+fn known_by(found: ChainFound) -> Looseness
     ensures { result ≡ looseness_by found }
 {
     match found {
@@ -256,7 +256,7 @@ fn loose_at<D: Disk, O: Origin>(
         Ok(OpenKey::Waits) => Ok(Looseness::Unknown),
         Ok(OpenKey::Open(key)) => match row_has(store, entry, key, place) {
             Err(fault) => Err(fault),
-            Ok(has) => Ok(looseness(has)),
+            Ok(has) => Ok(known_by(has)),
         },
     }
 }

@@ -52,7 +52,7 @@ returns-in-Ok-clause-chooses g c = λ told sound database among.
     let q = c.args.place in
     let key = c.in-Ok-Open.key in
     let has = c.in-Ok.has in
-    subst (LooseAt low c.args.locks.now e q s) (sym c.looseness.ensures) (loose_by low c.args.locks.now e key q s has database among
+    subst (LooseAt low c.args.locks.now e q s) (sym c.known_by.ensures) (loose_by low c.args.locks.now e key q s has database among
     (subst (IsOpenKey c.args.locks.now low e s q) c.in-Ok-Open.field-0-is (c.in-Ok-Open.ensures.tells told sound))
     (subst (λ (u : State). IsDatabaseState u → IsHadBy e key q u has) (c.in-Ok-Open.ensures.leaves.logs told sound).now
     (subst (λ k. IsDatabaseState c.open_at.new.store.now → IsHadBy e k q c.open_at.new.store.now has) (to_z-of_z w64 key (search rules)) (c.in-Ok.ensures.tells told sound)) database))
@@ -60,5 +60,5 @@ returns-in-Ok-clause-chooses g c = λ told sound database among.
 pub returns-in-Ok-clause-leaves : goal.returns-in-Ok-clause-leaves
 returns-in-Ok-clause-leaves g c =
     let first = g.O.Origin.first in
-    reads_on first g.D.Disk c.in-Ok-Open.field-0 c.args.store.now c.open_at.new.store c.row_has.new.store (Ok c.looseness.result) c.in-Ok-Open.ensures.leaves
-    (answers_ok first g.D.Disk c.in-Ok.has c.looseness.result c.open_at.new.store c.row_has.new.store c.in-Ok.ensures.leaves)
+    reads_on first g.D.Disk c.in-Ok-Open.field-0 c.args.store.now c.open_at.new.store c.row_has.new.store (Ok c.known_by.result) c.in-Ok-Open.ensures.leaves
+    (answers_ok first g.D.Disk c.in-Ok.has c.known_by.result c.open_at.new.store c.row_has.new.store c.in-Ok.ensures.leaves)

@@ -21,8 +21,8 @@ pub returns-in-Err-clause-turns : goal.returns-in-Err-clause-turns
 returns-in-Err-clause-turns g c =
     c.a_turn_goes_on.ensures.failed g.O.Origin.first c.args.store.now c.clean_first.new.store c.in-Err.fault c.clean_first.result (Err c.in-Err.fault) c.clean_first.ensures.tries.turns c.in-Err.is refl
 
-pub returns-in-Ok-Some : goal.returns-in-Ok-Some
-returns-in-Ok-Some g c =
+pub returns-in-Ok-Some-Logged : goal.returns-in-Ok-Some-Logged
+returns-in-Ok-Some-Logged g c =
     let first = g.O.Origin.first in
     let old = c.args.store.now in
     let mid = c.clean_first.new.store in
@@ -30,8 +30,8 @@ returns-in-Ok-Some g c =
     let x = c.args.at in
     let h = heeding c.args.low c.args.locks.now c.args.spared c.args.may in
     let r = c.clean_first.result in
-    let logged = c.in-Ok-Some.logged in
-    let is = c.in-Ok-Some.is ∙ ap Ok c.in-Ok-Some.field-0-is in
+    let logged = c.in-Ok-Some-Logged.logged in
+    let is = c.in-Ok-Some-Logged.is ∙ ap Ok c.in-Ok-Some-Logged.field-0-is in
     let part = part_told first g.D.Disk c.args.may.unlink old mid r r (Ok (Some logged)) refl is c.clean_first.ensures.tries in
     let so = sym c.told.ensures in
     record {
