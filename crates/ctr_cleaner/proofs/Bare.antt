@@ -120,7 +120,7 @@ no_rows s e dead none p owed = all_zero ((area_in s).firsts e).buckets (λ b lt.
 
 -- ---- whom everybody sees
 
-and_parts : (a b : Bool) → (a && b) ≡ true → (a ≡ true) × (b ≡ true)
+pub and_parts : (a b : Bool) → (a && b) ≡ true → (a ≡ true) × (b ≡ true)
 and_parts true b is = (refl, is)
 and_parts false b is = absurd (false≢true is)
 

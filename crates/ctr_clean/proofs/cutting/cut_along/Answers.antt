@@ -120,7 +120,11 @@ loop-left-preserved g c =
           (passing g k told sound c.meta.result.now false (ap (λ (m : TablesKept). m.tables) c.meta.ensures.tables ∙ c.meta.ensures.now told sound c.in-Ok.ensures.leaves.going) (sym c.passes.ensures ∙ c.if-passes.false)) c.in-Ok.facts.next (said g k told sound).next,
     )
 
-pub returns-clause-tells : goal.returns-clause-tells
-returns-clause-tells g c = λ e key told sound database leads.
-    none_near (passes_below c.args.low c.args.store.now.now.tables) (area_in c.args.store.now.now) c.args.from c.loop-left.at c.if-at-eq0.false
+pub returns-then-at-eq0-2-clause-tells : goal.returns-then-at-eq0-2-clause-tells
+returns-then-at-eq0-2-clause-tells g c = λ e key told sound database leads.
+    none_here (passes_below c.args.low c.args.store.now.now.tables) (area_in c.args.store.now.now) c.args.from c.loop-left.at c.loop-left.left c.if-at-eq0-2.true (c.loop-left.invariant.1 told sound)
+
+pub returns-else-at-eq0-2-clause-tells : goal.returns-else-at-eq0-2-clause-tells
+returns-else-at-eq0-2-clause-tells g c = λ e key told sound database leads.
+    none_near (passes_below c.args.low c.args.store.now.now.tables) (area_in c.args.store.now.now) c.args.from c.loop-left.at c.if-at-eq0-2.false
     (subst (IsOnWayTo (passes_below c.args.low c.args.store.now.now.tables) (area_in c.args.store.now.now) c.args.from c.loop-left.at) c.loop-left-test.false (c.loop-left.invariant.1 told sound))

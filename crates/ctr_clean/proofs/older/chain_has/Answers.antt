@@ -77,9 +77,12 @@ loop-left-preserved g c =
           (subst (λ (u : State). ((area_in u).older at).pointer ≡ facts.next) (c.loop-left.invariant.0.logs told sound).now (c.in-Ok.ensures.tells told sound).next),
     )
 
-pub returns-clause-tells : goal.returns-clause-tells
-returns-clause-tells g c = λ e key told sound database leads.
+pub returns-then-at-eq0-2-clause-tells : goal.returns-then-at-eq0-2-clause-tells
+returns-then-at-eq0-2-clause-tells g c = λ e key told sound database leads. ends_here (area_in c.args.store.now.now) c.args.from c.loop-left.at c.args.sought c.loop-left.left c.if-at-eq0-2.true (c.loop-left.invariant.1 told sound)
+
+pub returns-else-at-eq0-2-clause-tells : goal.returns-else-at-eq0-2-clause-tells
+returns-else-at-eq0-2-clause-tells g c = λ e key told sound database leads.
     let area = area_in c.args.store.now.now in
     let at = c.loop-left.at in
-    is_far area c.args.from at c.args.sought c.if-at-eq0.false
+    is_far area c.args.from at c.args.sought c.if-at-eq0-2.false
     (subst (IsOnWay area c.args.from at c.args.sought) c.loop-left-test.false (c.loop-left.invariant.1 told sound))
