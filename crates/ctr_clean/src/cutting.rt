@@ -83,7 +83,11 @@ fn cut_along<D: Disk, O: Origin>(
         }
         left -= 1;
     }
-    Ok(if at.page == 0 { CutFound::Nowhere } else { CutFound::Further })
+    Ok(if at.page == 0 {
+        CutFound::Nowhere
+    } else {
+        CutFound::Further
+    })
 }
 
 /// Whether a used slot has itself a version that everybody sees.

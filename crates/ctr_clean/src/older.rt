@@ -161,7 +161,11 @@ fn chain_has<D: Disk, O: Origin>(
         }
         left -= 1;
     }
-    Ok(if at.page == 0 { ChainFound::Missing } else { ChainFound::Beyond })
+    Ok(if at.page == 0 {
+        ChainFound::Missing
+    } else {
+        ChainFound::Beyond
+    })
 }
 
 /// Whether the chain of the row of a key has the version entry at a place, as far as reach goes.

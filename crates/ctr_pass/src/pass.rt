@@ -177,10 +177,8 @@ pub fn keeps_room(kept: bool, did: CleanTurn) -> bool
     ensures { result ≡ room_kept kept did }
 {
     match did {
-        CleanTurn::Cleaned
-        | CleanTurn::Moved { .. }
-        | CleanTurn::Over
-        | CleanTurn::Left { .. } => kept,
+        CleanTurn::Cleaned | CleanTurn::Moved { .. } | CleanTurn::Over | CleanTurn::Left { .. } =>
+            kept,
         CleanTurn::Unlinked => false,
         CleanTurn::Reclaimed => true,
     }

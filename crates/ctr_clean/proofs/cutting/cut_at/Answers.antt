@@ -17,7 +17,7 @@ use Rattle.ctr_dead.specs.page_turns_Acts.{ActsBy}
 use Rattle.ctr_dead.specs.trim_Cutting.{cut_record, CutsEntry}
 use Rattle.ctr_dead.proofs.trim_Reading.{reads_fault}
 use Rattle.ctr_clean.specs.declared.steps.Step.{Step}
-use Rattle.ctr_clean.specs.declared.steps.Step.TheVariants.{Cleaned, Nothing, Beyond}
+use Rattle.ctr_clean.specs.declared.steps.Step.TheVariants.{Cleaned, Nothing}
 use Rattle.ctr_clean.specs.Choosing.{passes_below}
 use Rattle.ctr_clean.specs.declared.cutting.CutFound.{CutFound}
 use Rattle.ctr_clean.specs.Cutting.{CutsBehind}
@@ -42,7 +42,7 @@ returns-in-Ok-Nowhere-clause-cleans g c = λ told sound database among live. (
 )
 
 pub returns-in-Ok-Further-clause-turns : goal.returns-in-Ok-Further-clause-turns
-returns-in-Ok-Further-clause-turns g c = Reads (answers_ok g.O.Origin.first g.D.Disk c.in-Ok-Further.field-0 Beyond c.args.store.now c.cut_place.new.store c.in-Ok-Further.ensures.leaves)
+returns-in-Ok-Further-clause-turns g c = Reads (answers_ok g.O.Origin.first g.D.Disk c.in-Ok-Further.field-0 _ c.args.store.now c.cut_place.new.store c.in-Ok-Further.ensures.leaves)
 
 pub returns-in-Ok-Further-clause-cleans : goal.returns-in-Ok-Further-clause-cleans
 returns-in-Ok-Further-clause-cleans g c = λ told sound database among live. (

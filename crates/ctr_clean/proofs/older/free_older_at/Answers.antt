@@ -14,7 +14,7 @@ use Rattle.ctr_dead.specs.page_turns_Turns.{Turns, Reads, LogsARecord}
 use Rattle.ctr_dead.specs.page_turns_Acts.{ActsBy}
 use Rattle.ctr_dead.proofs.trim_Reading.{reads_fault}
 use Rattle.ctr_clean.specs.declared.steps.Step.{Step}
-use Rattle.ctr_clean.specs.declared.steps.Step.TheVariants.{Cleaned, Nothing, Beyond}
+use Rattle.ctr_clean.specs.declared.steps.Step.TheVariants.{Cleaned, Nothing}
 use Rattle.ctr_clean.specs.declared.older.Looseness.{Looseness}
 use Rattle.ctr_clean.specs.Older.{IsLooseIn, LooseAt}
 use Rattle.ctr_clean.proofs.older.free_older_at.Goals as goal
@@ -32,7 +32,7 @@ pub returns-in-Ok-Kept-clause-turns : goal.returns-in-Ok-Kept-clause-turns
 returns-in-Ok-Kept-clause-turns g c = Reads (answers_ok g.O.Origin.first g.D.Disk c.in-Ok-Kept.field-0 Nothing c.args.store.now c.loose_at.new.store c.in-Ok-Kept.ensures.leaves)
 
 pub returns-in-Ok-Unknown-clause-turns : goal.returns-in-Ok-Unknown-clause-turns
-returns-in-Ok-Unknown-clause-turns g c = Reads (answers_ok g.O.Origin.first g.D.Disk c.in-Ok-Unknown.field-0 Beyond c.args.store.now c.loose_at.new.store c.in-Ok-Unknown.ensures.leaves)
+returns-in-Ok-Unknown-clause-turns g c = Reads (answers_ok g.O.Origin.first g.D.Disk c.in-Ok-Unknown.field-0 _ c.args.store.now c.loose_at.new.store c.in-Ok-Unknown.ensures.leaves)
 
 pub returns-in-Err-free_loose-clause-turns : goal.returns-in-Err-free_loose-clause-turns
 returns-in-Err-free_loose-clause-turns g c =
