@@ -46,13 +46,13 @@ module _ (s : State) (low : ℕ) (database : IsDatabaseState s) (closed : s.tabl
       (λ is. seen (all_seen s low ((area_in s).slot at).head.0 drawn is))
       (λ isnt. ⊎_elim
       (λ open_. absurd (not_open ((area_in s).slot at).head.0 open_))
-      (λ gone. let way = revert_ways ((area_in s).slot at) in (Reverts e at way.0, (tt, record { used = used; gone = gone; fits = way.1 })))
+      (λ gone. let way = revert_ways ((area_in s).slot at) in (Reverts e at way.0, tt, record { used = used; gone = gone; fits = way.1 }))
       (open_listed s.tables ((area_in s).slot at).head.0 (database.sound.behind e at used).0 (database.sound.below.slots e at used).0 isnt))
 
   -- where a version is kept off a row of a live table, that is to be trimmed, or loses its head
   chain_due : (e : ℕ) (at : Place) → is_live ((area_in s).title e) ≡ true → IsUsedSlot (area_in s) e at → (((area_in s).slot at).pointer.page ≡ 0 → ⊥) → IsDue
   chain_due e at live used some = head_seen e at used
-      (λ seen. (Trims (passes_below low s.tables) e at CutHead, ((refl, live), record { used = used; old = passes_committed low s.tables; fits = seen; some = inr some })))
+      (λ seen. (Trims (passes_below low s.tables) e at CutHead, (refl, live), record { used = used; old = passes_committed low s.tables; fits = seen; some = inr some }))
 
   none_waits : (x : ℕ) → waits_above low s.tables x ≡ false
   none_waits x = known (is_committed_in s.tables x)

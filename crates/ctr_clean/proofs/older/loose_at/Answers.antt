@@ -26,7 +26,7 @@ loose_by : (low : _) (locks : Locks) (e : _) (key : _) (q : Place) (s : State) (
     → LooseAt low locks e q s (looseness_by has)
 loose_by low locks e key q s Found database among known had = λ unlocked loose. loose.unlinked e had.0 had.1 had.3
 loose_by low locks e key q s Missing database among known had = (known.2, not_had s e key q database among known.0 known.1 had)
-loose_by low locks e key q s Beyond database among known had = (known.0, (known.2, inr (subst (λ k. IsHadBy e k q s Beyond) (sym known.1) had)))
+loose_by low locks e key q s Beyond database among known had = (known.0, known.2, inr (subst (λ k. IsHadBy e k q s Beyond) (sym known.1) had))
 
 pub returns-in-Err-clause-leaves : goal.returns-in-Err-clause-leaves
 returns-in-Err-clause-leaves g c = reads_fault g.O.Origin.first g.D.Disk c.args.store.now c.open_at.new.store OpenKey Looseness c.in-Err.fault c.open_at.result c.in-Err.is c.open_at.ensures.leaves
@@ -38,7 +38,7 @@ returns-in-Ok-Closed-clause-chooses g c = λ told sound database among unlocked 
 pub returns-in-Ok-Waits-clause-chooses : goal.returns-in-Ok-Waits-clause-chooses
 returns-in-Ok-Waits-clause-chooses g c = λ told sound database among.
     let known = subst (IsOpenKey c.args.locks.now c.args.low c.args.entry c.args.store.now.now c.args.place) c.in-Ok-Waits.field-0-is (c.in-Ok-Waits.ensures.tells told sound) in
-    (known.0, (known.1, inl known.2))
+    (known.0, known.1, inl known.2)
 
 pub returns-in-Err-row_has-clause-leaves : goal.returns-in-Err-row_has-clause-leaves
 returns-in-Err-row_has-clause-leaves g c =
