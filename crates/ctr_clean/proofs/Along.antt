@@ -1,7 +1,6 @@
 -- On the way along a chain of version entries.
-use Rattle.std.proofs.Common.{◌≡◌, ⊎_elim, inl, inr, ℕ, zero, suc, ℤ, cond, Bool, true, false, [], ◌∷◌, refl, sym, ◌∙◌, ap, subst}
-use Rattle.std.proofs.lemmas.Bool.{eq-eqb, eqb-true, ne_eqb, cases_eq, false≢true}
-use Rattle.std.specs.Prelude.{◌==◌, not}
+use Rattle.std.proofs.Common.{◌≡◌, ⊎_elim, inl, inr, ℕ, zero, suc, ℤ, cond, true, [], ◌∷◌, refl, sym, ◌∙◌, ap, subst}
+use Rattle.std.proofs.lemmas.Bool.{eq-eqb, ne_eqb, cases_eq}
 use Rattle.ctr_page.specs.declared.rows.Place.{Place}
 use Rattle.ctr_area.specs.Areas.{Older, Area}
 use Rattle.ctr_pvs.specs.redo_States.{State}
@@ -10,6 +9,7 @@ use Rattle.ctr_area.specs.Sound.{IsAmong, IsKeptFor, IsUsedSlot, IsOfVersions, A
 use Rattle.ctr_area.proofs.Buckets.{each_of, on_chain}
 use Rattle.ctr_record_effects.specs.States.{area_in}
 use Rattle.ctr_record_effects.specs.Standing.{IsDatabaseState}
+use Rattle.ctr_clean.specs.declared.older.ChainFound.TheVariants as found
 use Rattle.ctr_clean.specs.Older.{reach, EndsInReach, HasAlong, IsHadBy, IsLooseIn}
 
 -- the number before one, and 0 before 0
@@ -29,18 +29,19 @@ pub record IsOnWay (area : Area) (from at q : Place) (left : ℕ) : Type 0 where
   pub on : IsAmong q (places_along older_bound area.older from) → IsAmong q (places_along rest area.older at)
   pub back : IsAmong q (places_along rest area.older at) → IsAmong q (places_along older_bound area.older from)
   pub near : EndsInReach area from → Leads left area.older (λ p it. Unit {0}) at
+  pub within : IsAmong q (places_along reach area.older from) → IsAmong q (places_along left area.older at)
 
 pub at_start : (area : Area) (from q : Place) → IsOnWay area from from q 256
 unfolding reach
-at_start area from q = record { rest = older_bound; leads = λ e key leads. leads; on = λ in_. in_; back = λ in_. in_; near = λ short. short }
+at_start area from q = record { rest = older_bound; leads = λ e key leads. leads; on = λ in_. in_; back = λ in_. in_; near = λ short. short; within = λ in_. in_ }
 
 module _ (area : Area) (from at q : Place) (n : ℕ) (some : at.page ≡ 0 → ⊥) (way : IsOnWay area from at q (suc n)) where
   -- what is at the place
   pub kept_here : (e : ℕ) (key : ℤ) → Leads older_bound area.older (IsKeptFor area e key) from → IsKeptFor area e key at (area.older at)
   kept_here e key leads = (leads_through way.rest area.older (IsKeptFor area e key) at some (way.leads e key leads)).0
 
-  pub found_here : (e : ℕ) (key : ℤ) → Leads older_bound area.older (IsKeptFor area e key) from → at ≡ q → HasAlong area from q true
-  found_here e key leads is = inl (way.back (by way.rest (way.leads e key leads)))
+  pub found_here : (e : ℕ) (key : ℤ) → Leads older_bound area.older (IsKeptFor area e key) from → at ≡ q → HasAlong area from q found.Found
+  found_here e key leads is = way.back (by way.rest (way.leads e key leads))
     where
       by : (m : ℕ) → Leads m area.older (IsKeptFor area e key) at → IsAmong q (places_along m area.older at)
       by zero none = absurd (some none)
@@ -53,6 +54,7 @@ module _ (area : Area) (from at q : Place) (n : ℕ) (some : at.page ≡ 0 → �
     on = λ in_. on_by way.rest (way.on in_);
     back = λ in_. way.back (back_by way.rest in_);
     near = λ short. (leads_through (suc n) area.older (λ p it. Unit {0}) at some (way.near short)).1;
+    within = λ in_. on_by (suc n) (way.within in_);
   })
     where
       on_by : (m : ℕ) → IsAmong q (places_along m area.older at) → IsAmong q (places_along (before m) area.older (area.older at).pointer)
@@ -64,17 +66,16 @@ module _ (area : Area) (from at q : Place) (n : ℕ) (some : at.page ≡ 0 → �
       back_by (suc m) in_ = subst (λ b. IsAmong q (cond b [] (at ∷ places_along m area.older (area.older at).pointer))) (sym (ne_eqb at.page 0 some)) (inr in_)
 
 -- the chain ends
-pub ends_here : (area : Area) (from at q : Place) (left : ℕ) → at.page ≡ 0 → IsOnWay area from at q left → HasAlong area from q false
+pub ends_here : (area : Area) (from at q : Place) (left : ℕ) → at.page ≡ 0 → IsOnWay area from at q left → HasAlong area from q found.Missing
 ends_here area from at q left none way in_ = by way.rest (way.on in_)
   where
     by : (m : ℕ) → IsAmong q (places_along m area.older at) → ⊥
     by zero in_ = in_
     by (suc m) in_ = subst (λ b. IsAmong q (cond b [] (at ∷ places_along m area.older (area.older at).pointer))) (eq-eqb at.page 0 none) in_
 
--- no step is left within reach: the chain ends, or goes on further
-pub is_far : (area : Area) (from at q : Place) (b : Bool) → (at.page == 0) ≡ b → IsOnWay area from at q 0 → HasAlong area from q (not b)
-is_far area from at q true none way = ends_here area from at q 0 (eqb-true at.page 0 none) way
-is_far area from at q false some way = inr (λ short. false≢true (sym some ∙ eq-eqb at.page 0 (way.near short)))
+-- no step is left within reach, and the chain goes on
+pub is_far : (area : Area) (from at q : Place) → (at.page ≡ 0 → ⊥) → IsOnWay area from at q 0 → HasAlong area from q found.Beyond
+is_far area from at q some way = (λ in_. way.within in_, λ short. some (way.near short))
 
 pub same_place : (a b : Place) → a.page ≡ b.page → a.slot ≡ b.slot → a ≡ b
 same_place a b page slot = ap (λ p. record { page = p; slot = a.slot }) page ∙ ap (λ s. record { page = b.page; slot = s }) slot
@@ -102,7 +103,7 @@ one_table area e f q readable mine other = sym (entry f other) ∙ entry e mine
 
 -- a used version entry that no row of its key has is in no chain
 pub not_had : (s : State) (e : ℕ) (key : ℤ) (q : Place) → IsDatabaseState s → IsAmong q (older_places (area_in s) e) → ((area_in s).older q).used ≡ true → ((area_in s).older q).key ≡ key
-    → IsHadBy e key q s false → IsLooseIn e q s
+    → IsHadBy e key q s found.Missing → IsLooseIn e q s
 not_had s e key q database among used key_is none = record {
   here = among;
   content = refl;

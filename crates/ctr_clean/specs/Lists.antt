@@ -9,7 +9,7 @@ use Rattle.ctr_record_laws.specs.Owed.{OwedByForget}
 use Rattle.ctr_actions.specs.Actions.{Reclaims, Forgets}
 use Rattle.ctr_clean.specs.Steps.{Locks, CleansOne}
 use Rattle.ctr_clean.specs.declared.steps.Step.{Step}
-use Rattle.ctr_clean.specs.declared.steps.Step.TheVariants.{Cleaned, Nothing}
+use Rattle.ctr_clean.specs.declared.steps.Step.TheVariants.{Cleaned, Nothing, Beyond}
 
 -- no transaction at a place of the aborted transaction map may be forgotten
 abbrev pub HasNoForget : ℕ → Tables → Type 0
@@ -28,6 +28,7 @@ abbrev pub ForgetsAt : ℕ → Locks → ℕ → State → State → Step → Ty
 ForgetsAt low locks place s t Cleaned = (one : CleansOne low locks s t)
     × ((x : ℕ) × (slice_get s.tables.aborted place ≡ Some (x, 0)) × (one.action ≡ Forgets x))
 ForgetsAt low locks place s t Nothing = (t ≡ s) × HasNoForget place s.tables
+ForgetsAt low locks place s t Beyond = ⊥
 
 -- no page waits to be free again, but for those of the first items, so many
 abbrev pub HasNoFree : ℕ → Tables → Type 0
@@ -38,8 +39,10 @@ abbrev pub ReclaimsOne : ℕ → Locks → ℕ → State → State → Step → 
 ReclaimsOne low locks spared s t Cleaned = (one : CleansOne low locks s t)
     × ((p : ℕ) × (one.action ≡ Reclaims p) × IsAmong (FreeOf p) (drop spared s.tables.items))
 ReclaimsOne low locks spared s t Nothing = (t ≡ s) × HasNoFree spared s.tables
+ReclaimsOne low locks spared s t Beyond = ⊥
 
 -- an item of the secondary log is gone, where a page was given back
 abbrev pub TakesItem : TablesKept → TablesKept → Step → Type 0
 TakesItem k l Cleaned = length l.tables.items + 1 ≡ length k.tables.items
 TakesItem k l Nothing = l ≡ k
+TakesItem k l Beyond = ⊥

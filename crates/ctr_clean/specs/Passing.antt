@@ -1,16 +1,15 @@
 -- When no step has anything to do.
-use Rattle.std.specs.Prelude.{◌≡◌, ℕ, true, false}
+use Rattle.std.specs.Prelude.{◌≡◌, ℕ, true}
 use Rattle.ctr_page.specs.declared.rows.Place.{Place}
 use Rattle.ctr_pvs.specs.redo_States.{State}
 use Rattle.ctr_area.specs.Images.{is_live}
 use Rattle.ctr_record_effects.specs.States.{area_in}
-use Rattle.ctr_actions.specs.Actions.{Action, Cuts, FreesOlder, Unlinks, UnlinksOlder, FreesEntry}
+use Rattle.ctr_actions.specs.Actions.{Action, Unlinks, UnlinksOlder, FreesEntry}
 use Rattle.ctr_clean.specs.Steps.{Locks, HasNoTrim, HasNoRevert}
 use Rattle.ctr_clean.specs.Lists.{HasNoForget, HasNoFree}
 use Rattle.ctr_clean.specs.Tables.{OwesDying}
-use Rattle.ctr_clean.specs.Choosing.{waits_above}
-use Rattle.ctr_clean.specs.Older.{HasNoLoose, RowsEndInReach}
-use Rattle.ctr_clean.specs.Cutting.{IsFirstFrom, HasNoCut}
+use Rattle.ctr_clean.specs.Older.{HasNoLoose}
+use Rattle.ctr_clean.specs.Cutting.{HasNoCut}
 
 -- At every place a step says of a state that there is nothing to do: at each slot of each table,
 -- at each slot, its chain and each version entry of a live one, at each entry of the catalog, at
@@ -21,20 +20,14 @@ pub record HasNoStep (low : ℕ) (locks : Locks) (s : State) : Type 0 where
       → HasNoTrim low locks e at s
   pub chains : (e : ℕ) (at : Place) → is_live ((area_in s).title e) ≡ true
       → HasNoCut low locks e at s
-  pub older : (e : ℕ) (q : Place) → is_live ((area_in s).title e) ≡ true
-      → HasNoLoose low locks e q s
+  pub older : (e : ℕ) (q : Place) → is_live ((area_in s).title e) ≡ true → HasNoLoose locks e q s
   pub tables : (e : ℕ) → OwesDying low e s → ⊥
   pub aborted : (place : ℕ) → HasNoForget place s.tables
   pub free : HasNoFree 0 s.tables
 
--- A step does the action: one is written for it, what it looks for along a chain is within reach,
--- and what it frees isn't of a commit that somebody may not see yet.
-abbrev pub HasStep : ℕ → State → Action → Type 0
-HasStep low s (Cuts passes e at q) = IsFirstFrom passes (area_in s) ((area_in s).slot at).pointer q
-HasStep low s (FreesOlder e q) =
-    (waits_above low s.tables ((area_in s).older q).version.0 ≡ false)
-    × RowsEndInReach e ((area_in s).older q).key s
-HasStep low s (Unlinks p e b) = ⊥
-HasStep low s (UnlinksOlder p e) = ⊥
-HasStep low s (FreesEntry e title left) = ⊥
-HasStep low s a = Unit {0}
+-- A step does the action: one is written for it.
+abbrev pub HasStep : Action → Type 0
+HasStep (Unlinks p e b) = ⊥
+HasStep (UnlinksOlder p e) = ⊥
+HasStep (FreesEntry e title left) = ⊥
+HasStep a = Unit {0}

@@ -17,7 +17,7 @@ use Rattle.ctr_clean.specs.Choosing.{passes_below, MayTrim}
 use Rattle.ctr_clean.specs.declared.choosing.SlotTask.{SlotTask}
 use Rattle.ctr_clean.specs.declared.choosing.SlotTask.TheVariants as task
 use Rattle.ctr_clean.specs.declared.steps.Step.{Step}
-use Rattle.ctr_clean.specs.declared.steps.Step.TheVariants.{Cleaned, Nothing}
+use Rattle.ctr_clean.specs.declared.steps.Step.TheVariants.{Cleaned, Nothing, Beyond}
 
 -- which keys sessions have locked, in which entries of the catalog
 abbrev pub Locks : Type 0
@@ -74,6 +74,7 @@ abbrev pub RevertsAt : ℕ → Locks → ℕ → Place → State → State → S
 RevertsAt low locks e at s t Cleaned = (one : CleansOne low locks s t)
     × ((way : Reverting) × (one.action ≡ Reverts e at way))
 RevertsAt low locks e at s t Nothing = (t ≡ s) × HasNoRevert locks e at s
+RevertsAt low locks e at s t Beyond = ⊥
 
 -- ---- a slot of a live table
 
@@ -95,8 +96,10 @@ abbrev pub CleansSlot : ℕ → Locks → ℕ → Place → State → State → 
 CleansSlot low locks e at s t Cleaned = (one : CleansOne low locks s t) × IsDoneAt e at one.action
 CleansSlot low locks e at s t Nothing =
     (t ≡ s) × HasNoRevert locks e at s × HasNoTrim low locks e at s
+CleansSlot low locks e at s t Beyond = ⊥
 
 -- the log's next number behind a step
 abbrev pub next_stepped : Step → ℕ → ℕ
 next_stepped Cleaned next = next + 1
 next_stepped Nothing next = next
+next_stepped Beyond next = next

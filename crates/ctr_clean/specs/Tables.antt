@@ -7,7 +7,7 @@ use Rattle.ctr_actions.specs.Actions.{MakesDead}
 use Rattle.ctr_clean.specs.Choosing.{passes_below}
 use Rattle.ctr_clean.specs.Steps.{Locks, CleansOne}
 use Rattle.ctr_clean.specs.declared.steps.Step.{Step}
-use Rattle.ctr_clean.specs.declared.steps.Step.TheVariants.{Cleaned, Nothing}
+use Rattle.ctr_clean.specs.declared.steps.Step.TheVariants.{Cleaned, Nothing, Beyond}
 
 -- what is owed for a table to be made dead, by who everybody sees
 abbrev pub OwesDying : ℕ → ℕ → State → Type 0
@@ -23,3 +23,4 @@ abbrev pub MakesDeadAt : ℕ → Locks → ℕ → State → State → Step → 
 MakesDeadAt low locks e s t Cleaned = (one : CleansOne low locks s t)
     × (one.action ≡ MakesDead (passes_below low s.tables) e)
 MakesDeadAt low locks e s t Nothing = (t ≡ s) × (OwesDying low e s → ⊥)
+MakesDeadAt low locks e s t Beyond = ⊥

@@ -1,5 +1,5 @@
 // A step that cuts a chain behind a version entry.
-ghost use Rattle.std.specs.Prelude.{◌≡◌, ◌<◌, ℕ, ℤ, true, false, IfSome, IfOk, IfErr, OnOk};
+ghost use Rattle.std.specs.Prelude.{◌≡◌, ◌<◌, ℕ, ℤ, true, false, IfOk, IfErr, OnOk};
 ghost use Rattle.ctr_disk.specs.declared.fault.StoreFault.TheVariants.{Fault};
 ghost use Rattle.ctr_pvs.specs.base_Base.{WhereSound};
 ghost use Rattle.ctr_page.specs.declared.rows.Place.{Place as PlaceOf};
@@ -16,7 +16,7 @@ ghost use Rattle.ctr_dead.specs.page_turns_Rooms.{AddsItems};
 ghost use Rattle.ctr_dead.specs.page_turns_Turns.{Turns};
 ghost use Rattle.ctr_clean.specs.Choosing.{passes_below, TellsSlot};
 ghost use Rattle.ctr_clean.specs.Steps.{next_stepped};
-ghost use Rattle.ctr_clean.specs.Cutting.{IsCutAlong, OwnPasses, GoesBehind, CutsBehind, CutsAt};
+ghost use Rattle.ctr_clean.specs.Cutting.{IsCutAlong, IsCutBelow, OwnPasses, GoesBehind, CutsBehind, CutsAt};
 
 use crate::choosing::{SlotFacts, passes};
 use crate::heads::behind_at;
@@ -31,18 +31,29 @@ use ctr_page::Place;
 use ctr_pvs::{Origin, Store};
 use ctr_types::Xid;
 
+/// Where a chain may be cut.
+#[derive(Clone, Copy, Debug, PartialEq, Eq)]
+pub(crate) enum CutFound {
+    /// Behind this version entry.
+    Behind(Place),
+    /// Nowhere.
+    Nowhere,
+    /// That wasn't seen: it goes on beyond reach.
+    Further,
+}
+
 /// Where a chain may be cut that begins at a place, behind a slot: at the first version entry whose version everybody sees, where another is
-/// behind it. Each version entry up to that is read, as far as reach goes.
+/// behind it. Each version entry up to that is read, as far as reach goes; where the chain goes on beyond, that isn't seen.
 fn cut_along<D: Disk, O: Origin>(
     store: &mut Store<D, O>,
     low: Xid,
     from: Place,
-) -> Result<Option<Place>, StoreFault>
+) -> Result<CutFound, StoreFault>
     requires going { store.old.stopped ≡ false }
     ensures tells { (e : ℕ) (key : ℤ) → WhereSound O.first D.Disk (IsDatabaseState store.old.now
         → Leads older_bound (area_in store.old.now).older (IsKeptFor (area_in store.old.now) e key) from
         → IfOk result (IsCutAlong (passes_below low store.old.now.tables) (area_in store.old.now) from)) }
-    ensures counted { IfOk result (λ found. IfSome found (λ q. q.page < store.old.now.counted)) }
+    ensures counted { IfOk result (IsCutBelow store.old.now.counted) }
     ensures leaves { ReadsPages O.first D.Disk store.old store.new result }
     ensures refused { (e : ℕ) (key : ℤ) → WhereSound O.first D.Disk (IsDatabaseState store.old.now
         → Leads older_bound (area_in store.old.now).older (IsKeptFor (area_in store.old.now) e key) from → IfErr result (λ f. f ≡ Fault)) }
@@ -53,26 +64,30 @@ fn cut_along<D: Disk, O: Origin>(
     let mut left = REACH;
     while left != 0 {
         if at.page == 0 {
-            return Ok(None);
+            return Ok(CutFound::Nowhere);
         }
         if at.page >= store.counted() {
-            return Ok(None);
+            return Ok(CutFound::Nowhere);
         }
         match look_older(store, at) {
             Err(fault) => return Err(fault),
             Ok(facts) => {
                 if passes(store.meta(), low, facts.xid) {
                     if facts.next.page == 0 {
-                        return Ok(None);
+                        return Ok(CutFound::Nowhere);
                     }
-                    return Ok(Some(at));
+                    return Ok(CutFound::Behind(at));
                 }
                 at = facts.next;
             }
         }
         left -= 1;
     }
-    Ok(None)
+    Ok(if at.page == 0 {
+        CutFound::Nowhere
+    } else {
+        CutFound::Further
+    })
 }
 
 /// Whether a used slot has itself a version that everybody sees.
@@ -125,12 +140,12 @@ fn cut_off<D: Disk, O: Origin>(
     store: &mut Store<D, O>,
     low: Xid,
     place: Place,
-) -> Result<Option<Place>, StoreFault>
+) -> Result<CutFound, StoreFault>
     requires going { store.old.stopped ≡ false }
     requires counted { place.page < store.old.now.counted }
     ensures tells { (e : ℕ) → WhereSound O.first D.Disk (IsDatabaseState store.old.now → IsUsedSlot (area_in store.old.now) e place
         → IfOk result (IsCutAlong (passes_below low store.old.now.tables) (area_in store.old.now) ((area_in store.old.now).slot place).pointer)) }
-    ensures counted { IfOk result (λ found. IfSome found (λ q. q.page < store.old.now.counted)) }
+    ensures counted { IfOk result (IsCutBelow store.old.now.counted) }
     ensures leaves { ReadsPages O.first D.Disk store.old store.new result }
     ensures refused { (e : ℕ) → WhereSound O.first D.Disk (IsDatabaseState store.old.now → IsUsedSlot (area_in store.old.now) e place → IfErr result (λ f. f ≡ Fault)) }
 {
@@ -147,25 +162,25 @@ fn cut_place<D: Disk, O: Origin>(
     low: Xid,
     entry: u8,
     place: Place,
-) -> Result<Option<Place>, StoreFault>
+) -> Result<CutFound, StoreFault>
     requires going { store.old.stopped ≡ false }
     requires counted { place.page < store.old.now.counted }
     ensures chooses { WhereSound O.first D.Disk (IsDatabaseState store.old.now → IsAmong place (slot_places (area_in store.old.now) entry)
         → IfOk result (CutsBehind low locks.now entry place store.old.now)) }
-    ensures counted { IfOk result (λ found. IfSome found (λ q. q.page < store.old.now.counted)) }
+    ensures counted { IfOk result (IsCutBelow store.old.now.counted) }
     ensures leaves { ReadsPages O.first D.Disk store.old store.new result }
     ensures refused { WhereSound O.first D.Disk (IsDatabaseState store.old.now → IsAmong place (slot_places (area_in store.old.now) entry) → IfErr result (λ f. f ≡ Fault)) }
 {
     match behind_slot(store, locks, low, entry, place) {
         Err(fault) => Err(fault),
-        Ok(false) => Ok(None),
+        Ok(false) => Ok(CutFound::Nowhere),
         Ok(true) => cut_off(store, low, place),
     }
 }
 
 /// Cuts the chain of the slot at a place of a live table behind the first version entry whose version everybody sees, where that is no version of the
 /// slot's own, another is behind it, and the row isn't locked, by one record, which isn't hardened yet. The first 256 version entries of the
-/// chain are read, at most: one that is further behind isn't looked for. It takes no memory.
+/// chain are read, at most: where it goes on, and none of them is such a one, it answers [`Step::Beyond`]. It takes no memory.
 pub fn cut_at<D: Disk, O: Origin>(
     store: &mut Store<D, O>,
     locks: &KeyLocks,
@@ -181,20 +196,21 @@ pub fn cut_at<D: Disk, O: Origin>(
     // No transaction and no item is added to the tables, and as many pages are counted.
     ensures left { OnOk result (AddsItems 0 store.old.meta store.new.meta) }
     ensures counted { OnOk result (store.new.now.counted ≡ store.old.now.counted) }
-    // The slot's chain is cut behind a version entry; or it may not be behind any within reach, unless its row is locked.
+    // The slot's chain is cut behind a version entry; or it may not be behind any, unless its row is locked; or it goes on beyond reach, and that isn't seen.
     ensures cleans { WhereSound O.first D.Disk (IsDatabaseState store.old.now → IsAmong place (slot_places (area_in store.old.now) entry)
         → is_live ((area_in store.old.now).title entry) ≡ true → IfOk result (CutsAt low locks.now entry place store.old.now store.new.now)) }
     // It is refused for no other cause than that the disk failed.
     ensures refused { WhereSound O.first D.Disk (IsDatabaseState store.old.now → IsAmong place (slot_places (area_in store.old.now) entry)
         → is_live ((area_in store.old.now).title entry) ≡ true → IfErr result (λ f. f ≡ Fault)) }
 {
-    a_turn_goes_on::<D, Option<Place>, Step>();
+    a_turn_goes_on::<D, CutFound, Step>();
     a_turn_goes_on::<D, (), Step>();
     room_is_still_there::<D>();
     match cut_place(store, locks, low, entry, place) {
         Err(fault) => Err(fault),
-        Ok(None) => Ok(Step::Nothing),
-        Ok(Some(q)) => match cut_behind(store, q) {
+        Ok(CutFound::Nowhere) => Ok(Step::Nothing),
+        Ok(CutFound::Further) => Ok(Step::Beyond),
+        Ok(CutFound::Behind(q)) => match cut_behind(store, q) {
             Err(fault) => Err(fault),
             Ok(()) => Ok(Step::Cleaned),
         },

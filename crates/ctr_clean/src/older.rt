@@ -18,7 +18,7 @@ ghost use Rattle.ctr_pvs.specs.Lending.{entry_lent};
 ghost use Rattle.ctr_dead.specs.page_turns_Rooms.{AddsItems};
 ghost use Rattle.ctr_dead.specs.page_turns_Turns.{Turns};
 ghost use Rattle.ctr_clean.specs.Steps.{next_stepped};
-ghost use Rattle.ctr_clean.specs.Older.{IsSaid, IsOpenKey, HasAlong, IsHadBy, LooseAt, FreesAt};
+ghost use Rattle.ctr_clean.specs.Older.{IsSaid, IsOpenKey, HasAlong, IsHadBy, looseness_by, LooseAt, FreesAt};
 
 use crate::choosing::waits;
 use crate::heads::behind_at;
@@ -47,6 +47,37 @@ pub struct OlderFacts {
     pub xid: Xid,
     /// Page 0 where it leads nowhere.
     pub next: Place,
+}
+
+/// The key of a version entry that is to be looked for in its row's chain.
+#[derive(Clone, Copy, Debug, PartialEq, Eq)]
+pub(crate) enum OpenKey {
+    /// It is in use, its row isn't locked, and everybody who may see its version does.
+    Open(i64),
+    /// It isn't in use, or its row is locked.
+    Closed,
+    /// Its version is of a commit that somebody may not see yet.
+    Waits,
+}
+
+/// Whether a chain has a version entry.
+#[derive(Clone, Copy, Debug, PartialEq, Eq)]
+pub(crate) enum ChainFound {
+    Found,
+    Missing,
+    /// That wasn't seen: the chain goes on beyond reach.
+    Beyond,
+}
+
+/// Whether a version entry is to be freed.
+#[derive(Clone, Copy, Debug, PartialEq, Eq)]
+pub(crate) enum Looseness {
+    /// It is in use, and no chain has it.
+    Loose,
+    /// It stays.
+    Kept,
+    /// That wasn't seen.
+    Unknown,
 }
 
 /// What there is to know of a version entry that is lent.
@@ -96,13 +127,13 @@ fn is_place(a: Place, b: Place) -> bool
     a.page == b.page && a.slot == b.slot
 }
 
-/// Whether the chain that begins at a place, behind a slot, has the version entry at another, or goes on beyond reach: so many version entries
-/// are read, at most.
+/// Whether the chain that begins at a place, behind a slot, has the version entry at another, as far as reach goes: so many version entries are
+/// read, at most.
 fn chain_has<D: Disk, O: Origin>(
     store: &mut Store<D, O>,
     from: Place,
     sought: Place,
-) -> Result<bool, StoreFault>
+) -> Result<ChainFound, StoreFault>
     requires going { store.old.stopped ≡ false }
     ensures tells { (e : ℕ) (key : ℤ) → WhereSound O.first D.Disk (IsDatabaseState store.old.now
         → Leads older_bound (area_in store.old.now).older (IsKeptFor (area_in store.old.now) e key) from → IfOk result (HasAlong (area_in store.old.now) from sought)) }
@@ -116,13 +147,13 @@ fn chain_has<D: Disk, O: Origin>(
     let mut left = REACH;
     while left != 0 {
         if at.page == 0 {
-            return Ok(false);
+            return Ok(ChainFound::Missing);
         }
         if at.page >= store.counted() {
-            return Ok(false);
+            return Ok(ChainFound::Missing);
         }
         if is_place(at, sought) {
-            return Ok(true);
+            return Ok(ChainFound::Found);
         }
         match look_older(store, at) {
             Err(fault) => return Err(fault),
@@ -130,16 +161,20 @@ fn chain_has<D: Disk, O: Origin>(
         }
         left -= 1;
     }
-    Ok(at.page != 0)
+    Ok(if at.page == 0 {
+        ChainFound::Missing
+    } else {
+        ChainFound::Beyond
+    })
 }
 
-/// Whether the chain of the row of a key has the version entry at a place, or goes on beyond reach.
+/// Whether the chain of the row of a key has the version entry at a place, as far as reach goes.
 fn row_has<D: Disk, O: Origin>(
     store: &mut Store<D, O>,
     entry: u8,
     key: i64,
     place: Place,
-) -> Result<bool, StoreFault>
+) -> Result<ChainFound, StoreFault>
     requires going { store.old.stopped ≡ false }
     requires there { entry < 32 }
     ensures tells { WhereSound O.first D.Disk (IsDatabaseState store.old.now → IfOk result (IsHadBy entry key place store.old.now)) }
@@ -149,7 +184,7 @@ fn row_has<D: Disk, O: Origin>(
     a_bucket_search_meets_no_damage();
     match find(store, entry, key) {
         Err(fault) => Err(fault),
-        Ok(None) => Ok(false),
+        Ok(None) => Ok(ChainFound::Missing),
         Ok(Some(at)) => match behind_at(store, at) {
             Err(fault) => Err(fault),
             Ok(older) => chain_has(store, older, place),
@@ -159,16 +194,16 @@ fn row_has<D: Disk, O: Origin>(
 
 /// The key of a version entry, by what is known of it, where it is in use, its row isn't locked, and its version isn't of a commit that somebody may
 /// not see yet: most versions that an old snapshot keeps are, and in their row's chain.
-fn open_key(meta: &Meta, locks: &KeyLocks, low: Xid, entry: u8, facts: &OlderFacts) -> Option<i64>
+fn open_key(meta: &Meta, locks: &KeyLocks, low: Xid, entry: u8, facts: &OlderFacts) -> OpenKey
     ensures { (s : State) (q : PlaceOf) → meta.now.tables ≡ s.tables → IsSaid ((area_in s).older q) facts.now → IsOpenKey locks.now low entry s q result }
 {
-    if !facts.used || waits(meta, low, facts.xid) {
-        return None;
+    if !facts.used || locks.locked(entry, Key::new(facts.key)).is_some() {
+        return OpenKey::Closed;
     }
-    if locks.locked(entry, Key::new(facts.key)).is_some() {
-        return None;
+    if waits(meta, low, facts.xid) {
+        return OpenKey::Waits;
     }
-    Some(facts.key)
+    OpenKey::Open(facts.key)
 }
 
 /// The same of a store.
@@ -178,7 +213,7 @@ fn open_at<D: Disk, O: Origin>(
     low: Xid,
     entry: u8,
     place: Place,
-) -> Result<Option<i64>, StoreFault>
+) -> Result<OpenKey, StoreFault>
     requires going { store.old.stopped ≡ false }
     requires counted { place.page < store.old.now.counted }
     ensures tells { WhereSound O.first D.Disk (IfOk result (IsOpenKey locks.now low entry store.old.now place)) }
@@ -191,15 +226,26 @@ fn open_at<D: Disk, O: Origin>(
     }
 }
 
+/// What is known of a version entry by what was found along its row's chain.
+fn known_by(found: ChainFound) -> Looseness
+    ensures { result ≡ looseness_by found }
+{
+    match found {
+        ChainFound::Found => Looseness::Kept,
+        ChainFound::Missing => Looseness::Loose,
+        ChainFound::Beyond => Looseness::Unknown,
+    }
+}
+
 /// Whether the version entry at a place of a table is in use and in no chain, and its row isn't locked; where it is of a commit that somebody may
-/// not see yet, or its row's chain goes on beyond reach, that isn't known, and it stays.
+/// not see yet, or its row's chain goes on beyond reach, that isn't known.
 fn loose_at<D: Disk, O: Origin>(
     store: &mut Store<D, O>,
     locks: &KeyLocks,
     low: Xid,
     entry: u8,
     place: Place,
-) -> Result<bool, StoreFault>
+) -> Result<Looseness, StoreFault>
     requires going { store.old.stopped ≡ false }
     requires counted { place.page < store.old.now.counted }
     requires there { entry < 32 }
@@ -210,17 +256,19 @@ fn loose_at<D: Disk, O: Origin>(
 {
     match open_at(store, locks, low, entry, place) {
         Err(fault) => Err(fault),
-        Ok(None) => Ok(false),
-        Ok(Some(key)) => match row_has(store, entry, key, place) {
+        Ok(OpenKey::Closed) => Ok(Looseness::Kept),
+        Ok(OpenKey::Waits) => Ok(Looseness::Unknown),
+        Ok(OpenKey::Open(key)) => match row_has(store, entry, key, place) {
             Err(fault) => Err(fault),
-            Ok(has) => Ok(!has),
+            Ok(has) => Ok(known_by(has)),
         },
     }
 }
 
 /// Frees the version entry at a place of a live table where no chain has it and its row isn't locked, by one record, which isn't hardened yet. One
 /// of a commit that somebody may not see yet stays, and no row is looked at for it. Else the row is found by its key, along the chain of its
-/// bucket, and at most 256 version entries of its chain are read: where it has more, the version entry stays. It takes no memory.
+/// bucket, and at most 256 version entries of its chain are read: where it goes on, and the version entry isn't among these, that stays. In both
+/// cases it answers [`Step::Beyond`]. It takes no memory.
 pub fn free_older_at<D: Disk, O: Origin>(
     store: &mut Store<D, O>,
     locks: &KeyLocks,
@@ -236,21 +284,22 @@ pub fn free_older_at<D: Disk, O: Origin>(
     // No transaction and no item is added to the tables, and as many pages are counted.
     ensures left { OnOk result (AddsItems 0 store.old.meta store.new.meta) }
     ensures counted { OnOk result (store.new.now.counted ≡ store.old.now.counted) }
-    // The version entry is free; or it isn't in use, or of a commit that somebody may not see yet, or a chain has it, or its row's goes on
-    // beyond reach, unless its row is locked.
+    // The version entry is free; or it isn't in use, or a chain has it, unless its row is locked; or it is of a commit that somebody may not see yet,
+    // or its row's chain goes on beyond reach, and that isn't seen.
     ensures cleans { WhereSound O.first D.Disk (IsDatabaseState store.old.now → IsAmong place (older_places (area_in store.old.now) entry)
         → is_live ((area_in store.old.now).title entry) ≡ true → IfOk result (FreesAt low locks.now entry place store.old.now store.new.now)) }
     // It is refused for no other cause than that the disk failed.
     ensures refused { WhereSound O.first D.Disk (IsDatabaseState store.old.now → IsAmong place (older_places (area_in store.old.now) entry)
         → is_live ((area_in store.old.now).title entry) ≡ true → IfErr result (λ f. f ≡ Fault)) }
 {
-    a_turn_goes_on::<D, bool, Step>();
+    a_turn_goes_on::<D, Looseness, Step>();
     a_turn_goes_on::<D, (), Step>();
     room_is_still_there::<D>();
     match loose_at(store, locks, low, entry, place) {
         Err(fault) => Err(fault),
-        Ok(false) => Ok(Step::Nothing),
-        Ok(true) => match free_loose(store, place) {
+        Ok(Looseness::Kept) => Ok(Step::Nothing),
+        Ok(Looseness::Unknown) => Ok(Step::Beyond),
+        Ok(Looseness::Loose) => match free_loose(store, place) {
             Err(fault) => Err(fault),
             Ok(()) => Ok(Step::Cleaned),
         },

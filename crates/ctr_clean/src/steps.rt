@@ -22,6 +22,9 @@ pub enum Step {
     Cleaned,
     /// There was nothing to do.
     Nothing,
+    /// It didn't see whether there is anything to do: a row's chain goes on beyond the version entries that a step looks at, or a version entry is
+    /// of a commit that somebody may not see yet.
+    Beyond,
 }
 
 /// What there is to know of the slot at a place. One page is read. It logs nothing, and takes no memory.

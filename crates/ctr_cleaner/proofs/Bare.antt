@@ -1,6 +1,6 @@
 -- A pass that finds nothing leaves the pages bare.
-use Rattle.std.proofs.Common.{◌≡◌, ⊎_elim, inl, inr, ℤ, ℕ, zero, suc, ◌+◌, ◌*◌, ◌/◌, ◌%◌, ◌<◌, ◌≤◌, ◌==◌, cond, Bool, true, false, List, [], ◌∷◌, drop, length, slice_index, Ok, refl, sym, ◌∙◌, ap, subst, arith}
-use Rattle.std.specs.Prelude.{◌&&◌, nat_lt, not}
+use Rattle.std.proofs.Common.{◌≡◌, ⊎_elim, ℕ, suc, ◌+◌, ◌*◌, ◌/◌, ◌%◌, ◌<◌, ◌≤◌, ◌==◌, cond, Bool, true, false, List, [], ◌∷◌, drop, length, slice_index, Ok, refl, sym, ◌∙◌, ap, subst, arith}
+use Rattle.std.specs.Prelude.{◌&&◌, nat_lt}
 use Rattle.std.specs.List.{AllByRecursion, flat_map}
 use Rattle.std.proofs.lemmas.Bool.{false≢true, lt-ltb, cases_eq, ne_eqb, ltb-true, ltb-false}
 use Rattle.std.proofs.lemmas.List.{get_or-take, get_or-drop}
@@ -14,26 +14,22 @@ use Rattle.ctr_page.specs.Reading.{piece}
 use Rattle.ctr_page.specs.Damage.{firsts_check, used_entry_check, entry_check}
 use Rattle.ctr_walk.proofs.Entries.{both_ok}
 use Rattle.ctr_meta.specs.Tables.{Tables, is_in}
-use Rattle.ctr_area.specs.Areas.{Older, Firsts, Title, Area, no_pages}
-use Rattle.ctr_area.specs.Chains.{places_from, slot_places, older_places, Leads}
-use Rattle.ctr_area.specs.Images.{is_committed_in, is_live}
+use Rattle.ctr_area.specs.Areas.{Firsts, Title, Area, no_pages}
+use Rattle.ctr_area.specs.Chains.{places_from, slot_places, older_places}
+use Rattle.ctr_area.specs.Images.{is_committed_in}
 use Rattle.ctr_area.specs.Reading.{entry_bytes}
-use Rattle.ctr_area.specs.Sound.{IsAmong, IsUsedSlot}
+use Rattle.ctr_area.specs.Sound.{IsAmong}
 use Rattle.ctr_area.proofs.Buckets.{nothing_from_0}
 use Rattle.ctr_walk.specs.redo_States.{State}
 use Rattle.ctr_walk.specs.record_effects_States.{pages_in, area_in}
 use Rattle.ctr_walk.specs.record_effects_Standing.{IsDatabaseState}
 use Rattle.ctr_record_laws.specs.Bounds.{IsInBounds}
-use Rattle.ctr_record_laws.proofs.Heads.{open_listed}
-use Rattle.ctr_record_laws.proofs.RevertLaw.{revert_ways}
-use Rattle.ctr_record_laws.proofs.versions_Keys.{known}
-use Rattle.ctr_record_laws.specs.Owed.{first_page, CutHead, OwedByTrim, OwedByDying, PassCommitted, OwedByUnlink, OwedByOlderUnlink}
+use Rattle.ctr_record_laws.specs.Owed.{first_page, OwedByTrim, OwedByCut, OwedByDying, PassCommitted, OwedByUnlink, OwedByOlderUnlink}
 use Rattle.ctr_actions.specs.Sites.{site_of}
 use Rattle.ctr_actions.specs.Actions.{Action, Begins, Allocates, Formats, Links, LinksOlder, Keeps, Writes, Creates, Drops, Commits, Frees, Uncreates, Undrops, Aborts, Reclaims, Reverts, Trims, Cuts, FreesOlder, MakesDead, Unlinks, UnlinksOlder, FreesEntry, Forgets, Checkpoints, Owes}
 use Rattle.ctr_actions.specs.Cleaning.{IsCleaning}
-use Rattle.ctr_emptying.specs.clean_Choosing.{passes_below, waits_above}
+use Rattle.ctr_emptying.specs.clean_Choosing.{passes_below}
 use Rattle.ctr_emptying.specs.clean_Lists.{HasNoFree}
-use Rattle.ctr_emptying.specs.clean_Older.{reach, RowsEndInReach}
 use Rattle.ctr_emptying.proofs.clean_Listed.{place_in_map}
 use Rattle.ctr_emptying.specs.cursor_Position.{Position}
 use Rattle.ctr_emptying.specs.cursor_Position.TheVariants.{Entry, Slot, Kept, Aborted}
@@ -124,7 +120,7 @@ no_rows s e dead none p owed = all_zero ((area_in s).firsts e).buckets (λ b lt.
 
 -- ---- whom everybody sees
 
-and_parts : (a b : Bool) → (a && b) ≡ true → (a ≡ true) × (b ≡ true)
+pub and_parts : (a b : Bool) → (a && b) ≡ true → (a ≡ true) × (b ≡ true)
 and_parts true b is = (refl, is)
 and_parts false b is = absurd (false≢true is)
 
@@ -142,7 +138,7 @@ passes_committed low tables x is = (and_parts (is_committed_in tables x) (nat_lt
 
 -- ---- what was found
 
-module _ (s : State) (low : ℕ) (passed : List Position) (database : IsDatabaseState s) (bounds : IsInBounds (area_in s)) (closed : s.tables.opens ≡ []) (drawn : s.tables.next ≤ low)
+module _ (s : State) (low : ℕ) (passed : List Position) (database : IsDatabaseState s) (bounds : IsInBounds (area_in s)) (closed : s.tables.opens ≡ [])
     (free : HasNoFree 0 s.tables) (every : HoldsEverywhere (λ x. IsAmong x passed) (site_of s)) (found : (x : Position) → IsAmong x passed → HasNothingAt (λ e key. Unit {0}) low x s) where
   in_slot : (e : ℕ) (at : Place) → IsAmong at (slot_places (area_in s) e) → HasNothingInSlot low e at s
   in_slot e at in_ = let here = every.slots e at (slot_inside (area_in s) bounds e at in_) in_ in found (Slot e here.0 at) here.1 tt
@@ -150,43 +146,11 @@ module _ (s : State) (low : ℕ) (passed : List Position) (database : IsDatabase
   in_dead : (e : ℕ) → e < 32 → ((area_in s).title e).state ≡ 2 → HasNothingInDead e s
   in_dead e lt dead = (found (Entry e) (every.entries e lt)).1 dead
 
-  -- ---- a head is one that everybody sees, and so nothing is behind it
-
-  not_open : (x : ℕ) → is_in x s.tables.opens ≡ true → ⊥
-  not_open x open_ = false≢true (subst (λ ps. is_in x ps ≡ true) closed open_)
-
-  not_aborted : (e : ℕ) (at : Place) → IsUsedSlot (area_in s) e at → is_in ((area_in s).slot at).head.0 s.tables.aborted ≡ true → ⊥
-  not_aborted e at used gone =
-      let way = revert_ways ((area_in s).slot at) in
-      (in_slot e at used.0).heads way.0 (record { used = used; gone = gone; fits = way.1 })
-
-  head_seen : (e : ℕ) (at : Place) → IsUsedSlot (area_in s) e at → passes_below low s.tables ((area_in s).slot at).head.0 ≡ true
-  head_seen e at used = all_seen s low ((area_in s).slot at).head.0 drawn (known (is_committed_in s.tables ((area_in s).slot at).head.0) (λ is. is)
-      (λ isnt. absurd (⊎_elim (not_open ((area_in s).slot at).head.0) (not_aborted e at used)
-      (open_listed s.tables ((area_in s).slot at).head.0 (database.sound.behind e at used).0 (database.sound.below.slots e at used).0 isnt))))
-
-  leads_nowhere : (e : ℕ) (at : Place) → is_live ((area_in s).title e) ≡ true → IsUsedSlot (area_in s) e at → ((area_in s).slot at).pointer.page ≡ 0
-  leads_nowhere e at live used = ⊎_elim (λ is. is)
-      (λ some. absurd ((in_slot e at used.0).slots live CutHead (record { used = used; old = passes_committed low s.tables; fits = head_seen e at used; some = inr some })))
-      (cases_eq ((area_in s).slot at).pointer.page 0)
-
-  none_waits : (x : ℕ) → waits_above low s.tables x ≡ false
-  none_waits x = known (is_committed_in s.tables x)
-      (λ is. ap (λ b. is_committed_in s.tables x && not b) (and_parts (is_committed_in s.tables x) (nat_lt x low) (all_seen s low x drawn is)).1 ∙ ap (λ b. b && false) is)
-      (λ isnt. ap (λ b. b && not (nat_lt x low)) isnt)
-
-  ends_within : (n : ℕ) (older : Place → Older) (at : Place) → at.page ≡ 0 → Leads n older (λ p it. Unit {0}) at
-  ends_within zero older at none = none
-  ends_within (suc n) older at none = inl none
-
-  short_rows : (e : ℕ) (key : ℤ) → is_live ((area_in s).title e) ≡ true → RowsEndInReach e key s
-  short_rows e key live at used is = ends_within reach (area_in s).older ((area_in s).slot at).pointer (leads_nowhere e at live used)
-
   pub nothing_left : (a : Action) → IsCleaning (passes_below low s.tables) a (site_of s) → Owes 0 a (site_of s) → ⊥
   nothing_left (Reverts e at way) cleaning owed = (in_slot e at owed.used.0).heads way owed
   nothing_left (Trims test e at way) cleaning owed = (in_slot e at owed.used.0).slots cleaning.1 way (subst (λ t. OwedByTrim t s.tables (area_in s) e at way) cleaning.0 owed)
-  nothing_left (Cuts test e at q) cleaning owed = false≢true (sym (subst (λ (t : ℕ → Bool). t ((area_in s).slot at).head.0 ≡ false) cleaning.0 owed.head) ∙ head_seen e at owed.used)
-  nothing_left (FreesOlder e q) cleaning owed = found (Kept e q) (every.kept e q (older_inside (area_in s) bounds e q owed.here) owed.here) cleaning tt (owed, none_waits ((area_in s).older q).version.0, short_rows e ((area_in s).older q).key cleaning)
+  nothing_left (Cuts test e at q) cleaning owed = (in_slot e at owed.used.0).chains cleaning.1 q (subst (λ t. OwedByCut t (area_in s) e at q) cleaning.0 owed)
+  nothing_left (FreesOlder e q) cleaning owed = found (Kept e q) (every.kept e q (older_inside (area_in s) bounds e q owed.here) owed.here) cleaning tt owed
   nothing_left (MakesDead test e) cleaning owed = (found (Entry e) (every.entries e owed.inside)).0 (subst (λ t. OwedByDying t s.tables (area_in s) e) cleaning owed)
   nothing_left (Reclaims p) cleaning owed = free p owed
   nothing_left (Forgets y) cleaning owed =

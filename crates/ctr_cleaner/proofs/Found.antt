@@ -41,6 +41,7 @@ use Rattle.ctr_meta.specs.Kept.{TablesKept}
 use Rattle.ctr_cleaner.specs.declared.done.MayEmpty.{MayEmpty}
 use Rattle.ctr_cleaner.specs.declared.done.CleanTurn.{CleanTurn}
 use Rattle.ctr_cleaner.specs.declared.done.CleanTurn.TheVariants as turn
+use Rattle.ctr_cleaner.specs.declared.done.Dealt.TheVariants.{Logged as Logs, Unseen}
 use Rattle.ctr_cleaner.specs.declared.done.Logged.{Logged}
 use Rattle.ctr_cleaner.specs.declared.done.Logged.TheVariants.{Cleaned, Unlinked, Reclaimed}
 use Rattle.ctr_cleaner.specs.Finding.{IsFreeRow, HasNothingAt, HasNothingInSlot}
@@ -55,11 +56,13 @@ everything = record { unlink = true; free = true }
 pub step_err : (P : StoreFault → Type 0) (r : Result Step StoreFault) → IfErr r P → IfErr (done_step r) P
 step_err P (Ok step.Cleaned) is = tt
 step_err P (Ok step.Nothing) is = tt
+step_err P (Ok step.Beyond) is = tt
 step_err P (Err e) is = is
 
 pub reclaim_err : (P : StoreFault → Type 0) (r : Result Step StoreFault) → IfErr r P → IfErr (done_reclaim r) P
 reclaim_err P (Ok step.Cleaned) is = tt
 reclaim_err P (Ok step.Nothing) is = tt
+reclaim_err P (Ok step.Beyond) is = tt
 reclaim_err P (Err e) is = is
 
 pub freed_err : (P : StoreFault → Type 0) (r : Result Emptied StoreFault) → IfErr r P → IfErr (done_freed r) P
@@ -74,7 +77,8 @@ unlinked_err P (Err e) is = is
 
 -- what was found may be said in other words
 pub did_so : (h : Heeded) (x : Position) (F G : Type 0) (s t : State) → (F → G) → (d : Done) → DidAt h x F s t d → DidAt h x G s t d
-did_so h x F G s t so (Some logged) did = did
+did_so h x F G s t so (Some (Logs logged)) did = did
+did_so h x F G s t so (Some Unseen) did = did
 did_so h x F G s t so None did = (did.0, so did.1)
 
 pub done_so : (h : Heeded) (x : Position) (F G : Type 0) (s t : State) → (F → G) → (r : Result Done StoreFault) → IfOk r (DidAt h x F s t) → IfOk r (DidAt h x G s t)
@@ -109,6 +113,7 @@ pub forgets : (low : ℕ) (locks : Locks) (spared n : ℕ) (may : MayEmpty) (s t
     → IfOk (done_step r) (DidAt (heeding low locks spared may) (Aborted n) (HasNoForget n s.tables) s t)
 forgets low locks spared n may s t (Ok step.Cleaned) (one, (x, there, is)) = freely low locks spared may (Aborted n) turn.Cleaned s t one (Forgets x) tt is tt (λ p same. absurd cc) (λ f title left same. absurd cc) (λ takes. takes)
 forgets low locks spared n may s t (Ok step.Nothing) did = did
+forgets low locks spared n may s t (Ok step.Beyond) did = absurd did
 forgets low locks spared n may s t (Err e) did = tt
 
 -- a page that is given back was taken from its chain before
@@ -126,6 +131,7 @@ pub reclaims : (low : ℕ) (locks : Locks) (spared : ℕ) (may : MayEmpty) (x : 
 reclaims low locks spared may x s t (Ok step.Cleaned) (one, (p, is, among)) =
     freely low locks spared may x turn.Reclaimed s t one (Reclaims p) tt is tt (λ q same. subst (λ n. IsAmong (FreeOf n) (drop spared s.tables.items)) (page_same p q same) among) (λ f title left same. absurd cc) (stays p x)
 reclaims low locks spared may x s t (Ok step.Nothing) did = did
+reclaims low locks spared may x s t (Ok step.Beyond) did = absurd did
 reclaims low locks spared may x s t (Err e) did = tt
 
 -- ---- at an entry of the catalog
@@ -134,6 +140,7 @@ pub dies : (low : ℕ) (locks : Locks) (spared e : ℕ) (may : MayEmpty) (s t : 
     → IfOk (done_step r) (DidAt (heeding low locks spared may) (Entry e) (OwesDying low e s → ⊥) s t)
 dies low locks spared e may s t (Ok step.Cleaned) (one, is) = freely low locks spared may (Entry e) turn.Cleaned s t one (MakesDead (passes_below low s.tables) e) tt is tt (λ p same. absurd cc) (λ f title left same. absurd cc) (λ takes. takes)
 dies low locks spared e may s t (Ok step.Nothing) did = did
+dies low locks spared e may s t (Ok step.Beyond) did = absurd did
 dies low locks spared e may s t (Err e2) did = tt
 
 pub unlinks_rows : (h : Heeded) (e b : ℕ) (s t : State) (r : Result Emptied StoreFault) → ((area_in s).title e).state ≡ 2 → IfOk r (UnlinksRowsAt e b s t)
@@ -252,16 +259,19 @@ module _ (low : ℕ) (locks : Locks) (spared : ℕ) (may : MayEmpty) (e b : ℕ)
       (λ trims. freely low locks spared may (Slot e b at) turn.Cleaned s t one (Trims trims.0 e at trims.1) tt trims.2 unlocked.1 (λ p same. absurd cc) (λ f title left same. absurd cc) (λ takes. takes))
       (done_at e at one.action is)
   cleans_slot (Ok step.Nothing) did = (did.0, (did.1, did.2))
+  cleans_slot (Ok step.Beyond) did = absurd did
   cleans_slot (Err e2) did = tt
 
-  pub cuts_slot : (r : Result Step StoreFault) → IfOk r (CutsAt low locks e at s t) → IfOk (done_step r) (DidAt (heeding low locks spared may) (Slot e b at) (HasNoCut low locks e at s) s t)
-  cuts_slot (Ok step.Cleaned) (one, (q, is)) = freely low locks spared may (Slot e b at) turn.Cleaned s t one (Cuts (passes_below low s.tables) e at q) tt is unlocked.1 (λ p same. absurd cc) (λ f title left same. absurd cc) (λ takes. takes)
-  cuts_slot (Ok step.Nothing) did = did
-  cuts_slot (Err e2) did = tt
+  pub cuts_slot : is_live ((area_in s).title e) ≡ true → (r : Result Step StoreFault) → IfOk r (CutsAt low locks e at s t) → IfOk (done_step r) (DidAt (heeding low locks spared may) (Slot e b at) (HasNoCut low locks e at s) s t)
+  cuts_slot live (Ok step.Cleaned) (one, (q, is)) = freely low locks spared may (Slot e b at) turn.Cleaned s t one (Cuts (passes_below low s.tables) e at q) tt is unlocked.1 (λ p same. absurd cc) (λ f title left same. absurd cc) (λ takes. takes)
+  cuts_slot live (Ok step.Nothing) did = did
+  cuts_slot live (Ok step.Beyond) did = (did.0, (live, did.1))
+  cuts_slot live (Err e2) did = tt
 
   pub reverts_slot : (r : Result Step StoreFault) → IfOk r (RevertsAt low locks e at s t) → IfOk (done_step r) (DidAt (heeding low locks spared may) (Slot e b at) (HasNoRevert locks e at s) s t)
   reverts_slot (Ok step.Cleaned) (one, (way, is)) = freely low locks spared may (Slot e b at) turn.Cleaned s t one (Reverts e at way) tt is unlocked.1 (λ p same. absurd cc) (λ f title left same. absurd cc) (λ takes. takes)
   reverts_slot (Ok step.Nothing) did = did
+  reverts_slot (Ok step.Beyond) did = absurd did
   reverts_slot (Err e2) did = tt
 
 module _ (low : ℕ) (locks : Locks) (e : ℕ) (at : Place) (s : State) where
@@ -272,34 +282,35 @@ module _ (low : ℕ) (locks : Locks) (e : ℕ) (at : Place) (s : State) where
   nothing_dead isnt unlocked none = record { heads = none unlocked; slots = λ live. absurd (false≢true (sym isnt ∙ live)); chains = λ live. absurd (false≢true (sym isnt ∙ live)) }
 
   pub nothing_closed : (((area_in s).slot at).used ≡ true → IsFreeRow locks s e ((area_in s).slot at).key → ⊥) → IsFreeRow locks s e ((area_in s).slot at).key → HasNothingInSlot low e at s
-  nothing_closed closed free = record { heads = λ way owed. closed owed.used.1 free; slots = λ live way owed. closed owed.used.1 free; chains = λ live q owed. closed owed.0.used.1 free }
+  nothing_closed closed free = record { heads = λ way owed. closed owed.used.1 free; slots = λ live way owed. closed owed.used.1 free; chains = λ live q owed. closed owed.used.1 free }
 
 -- ---- at a version entry
 
-pub frees_older : (low : ℕ) (locks : Locks) (spared e : ℕ) (may : MayEmpty) (q : Place) (s t : State) → KeyLockSaid locks e ((area_in s).older q).key s true → (r : Result Step StoreFault)
+pub frees_older : (low : ℕ) (locks : Locks) (spared e : ℕ) (may : MayEmpty) (q : Place) (s t : State) → is_live ((area_in s).title e) ≡ true → KeyLockSaid locks e ((area_in s).older q).key s true → (r : Result Step StoreFault)
     → IfOk r (FreesAt low locks e q s t) → IfOk (done_step r) (DidAt (heeding low locks spared may) (Kept e q) (HasNothingAt (IsFreeRow locks s) low (Kept e q) s) s t)
-frees_older low locks spared e may q s t unlocked (Ok step.Cleaned) (one, is) = freely low locks spared may (Kept e q) turn.Cleaned s t one (FreesOlder e q) tt is unlocked.1 (λ p same. absurd cc) (λ f title left same. absurd cc) (λ takes. takes)
-frees_older low locks spared e may q s t unlocked (Ok step.Nothing) (same, none) = (same, λ live free loose. none unlocked.0 loose)
-frees_older low locks spared e may q s t unlocked (Err e2) did = tt
+frees_older low locks spared e may q s t live unlocked (Ok step.Cleaned) (one, is) = freely low locks spared may (Kept e q) turn.Cleaned s t one (FreesOlder e q) tt is unlocked.1 (λ p same. absurd cc) (λ f title left same. absurd cc) (λ takes. takes)
+frees_older low locks spared e may q s t live unlocked (Ok step.Nothing) (same, none) = (same, λ lives free loose. none unlocked.0 loose)
+frees_older low locks spared e may q s t live unlocked (Ok step.Beyond) (same, unseen) = (same, (live, unseen))
+frees_older low locks spared e may q s t live unlocked (Err e2) did = tt
 
 -- ---- a turn that logged a record
 
-pub told_numbers : (old new : ℕ) (logged : Logged) → new ≡ next_done (Some logged) old → new ≡ next_cleaned (turn_logged logged) old
+pub told_numbers : (old new : ℕ) (logged : Logged) → new ≡ next_done (Some (Logs logged)) old → new ≡ next_cleaned (turn_logged logged) old
 told_numbers old new Cleaned is = is
 told_numbers old new Unlinked is = is
 told_numbers old new Reclaimed is = is
 
-pub told_left : (k l : TablesKept) (logged : Logged) → PartLeavesRoom (Some logged) k l → LeavesRoomBy (turn_logged logged) k l
+pub told_left : (k l : TablesKept) (logged : Logged) → PartLeavesRoom (Some (Logs logged)) k l → LeavesRoomBy (turn_logged logged) k l
 told_left k l Cleaned is = is
 told_left k l Unlinked is = is
 told_left k l Reclaimed is = is
 
-pub told_within : (may : Bool) (counted : ℕ) (logged : Logged) → IsLetGo may (Some logged) → IsTurnWithin may counted (turn_logged logged)
+pub told_within : (may : Bool) (counted : ℕ) (logged : Logged) → IsLetGo may (Some (Logs logged)) → IsTurnWithin may counted (turn_logged logged)
 told_within may counted Cleaned is = is
 told_within may counted Unlinked is = is
 told_within may counted Reclaimed is = is
 
-pub told_did : (h : Heeded) (x : Position) (F : Type 0) (s t : State) (logged : Logged) → DidAt h x F s t (Some logged) → TurnsAt h x s t (turn_logged logged)
+pub told_did : (h : Heeded) (x : Position) (F : Type 0) (s t : State) (logged : Logged) → DidAt h x F s t (Some (Logs logged)) → TurnsAt h x s t (turn_logged logged)
 told_did h x F s t Cleaned is = is
 told_did h x F s t Unlinked is = is
 told_did h x F s t Reclaimed is = is

@@ -24,6 +24,7 @@ use Rattle.ctr_emptying.proofs.clean_Resting.{rests_read}
 use Rattle.ctr_emptying.specs.declared.emptied.Emptied.{Emptied}
 use Rattle.ctr_emptying.specs.declared.emptied.Emptied.TheVariants as emptied
 use Rattle.ctr_emptying.specs.Emptying.{next_emptied}
+use Rattle.ctr_cleaner.specs.declared.done.Dealt.TheVariants.{Logged as Logs, Unseen}
 use Rattle.ctr_cleaner.specs.declared.done.Logged.TheVariants.{Cleaned, Unlinked, Reclaimed}
 use Rattle.ctr_cleaner.specs.Turning.{HasRoomFor}
 use Rattle.ctr_cleaner.specs.Parts.{Done, next_done, PartLeavesRoom, IsLetGo, Tries, done_step, done_reclaim, done_freed, done_unlinked}
@@ -54,6 +55,9 @@ module _ {D : Type 0} (first : Image) (g : Ghosts D) where
 
   pub nothing_read : (may : Bool) (a b : View D) → Tries may first g a b (Ok None) → LeavesPage {T = Done} first g a b (Ok None)
   nothing_read may a b part = turn_reads None a b part.turns part.numbers part.counted
+
+  pub unseen_read : (may : Bool) (a b : View D) → Tries may first g a b (Ok (Some Unseen)) → LeavesPage {T = Done} first g a b (Ok (Some Unseen))
+  unseen_read may a b part = turn_reads (Some Unseen) a b part.turns part.numbers part.counted
 
   pub part_behind : {S : Type 0} (may : Bool) (x : S) (a b c : View D) (result : Result Done StoreFault) → LeavesPage {T = S} first g a b (Ok x)
       → (Turns first g b c result → Turns first g a c result) → Tries may first g b c result → Tries may first g a c result
@@ -91,10 +95,11 @@ module _ {D : Type 0} (first : Image) (g : Ghosts D) where
   part_may may a b result part = record { turns = part.turns; numbers = part.numbers; left = part.left; counted = part.counted; lets = lets result part.lets }
     where
       lets : (r : Result Done StoreFault) → IfOk r (IsLetGo false) → IfOk r (IsLetGo may)
-      lets (Ok (Some Cleaned)) is = tt
-      lets (Ok (Some Reclaimed)) is = tt
+      lets (Ok (Some (Logs Cleaned))) is = tt
+      lets (Ok (Some (Logs Reclaimed))) is = tt
+      lets (Ok (Some Unseen)) is = tt
       lets (Ok None) is = tt
-      lets (Ok (Some Unlinked)) is = absurd cc
+      lets (Ok (Some (Logs Unlinked))) is = absurd cc
       lets (Err e) is = tt
 
   -- a part as it was told in other words
@@ -113,24 +118,26 @@ module _ {D : Type 0} (first : Image) (g : Ghosts D) where
 
   pub step_part : (a b : View D) (result : Result Step StoreFault) → Turns first g a b result → IfOk result (λ (t : Step). b.next ≡ next_stepped t a.next)
       → OnOk result (AddsItems 0 a.meta b.meta) → OnOk result (b.now.counted ≡ a.now.counted) → Tries false first g a b (done_step result)
-  step_part a b (Ok step.Cleaned) turns numbers left counted = record { turns = turn_ok first g a b step.Cleaned (Some Cleaned) turns; numbers = numbers; left = left; counted = counted; lets = tt }
+  step_part a b (Ok step.Cleaned) turns numbers left counted = record { turns = turn_ok first g a b step.Cleaned (Some (Logs Cleaned)) turns; numbers = numbers; left = left; counted = counted; lets = tt }
   step_part a b (Ok step.Nothing) turns numbers left counted = record { turns = turn_ok first g a b step.Nothing None turns; numbers = numbers; left = left; counted = counted; lets = tt }
+  step_part a b (Ok step.Beyond) turns numbers left counted = record { turns = turn_ok first g a b step.Beyond (Some Unseen) turns; numbers = numbers; left = left; counted = counted; lets = tt }
   step_part a b (Err e) turns numbers left counted = record { turns = turn_fails first g a b e (Err e) (Err e) turns refl refl; numbers = tt; left = tt; counted = tt; lets = tt }
 
   pub reclaim_part : (a b : View D) (result : Result Step StoreFault) → Turns first g a b result → IfOk result (λ (t : Step). b.next ≡ next_stepped t a.next)
       → OnOk result (AddsItems 0 a.meta b.meta) → OnOk result (b.now.counted ≡ a.now.counted) → IfOk result (TakesItem a.meta b.meta) → Tries false first g a b (done_reclaim result)
-  reclaim_part a b (Ok step.Cleaned) turns numbers left counted takes = record { turns = turn_ok first g a b step.Cleaned (Some Reclaimed) turns; numbers = numbers; left = (left, takes); counted = counted; lets = tt }
+  reclaim_part a b (Ok step.Cleaned) turns numbers left counted takes = record { turns = turn_ok first g a b step.Cleaned (Some (Logs Reclaimed)) turns; numbers = numbers; left = (left, takes); counted = counted; lets = tt }
   reclaim_part a b (Ok step.Nothing) turns numbers left counted takes = record { turns = turn_ok first g a b step.Nothing None turns; numbers = numbers; left = left; counted = counted; lets = tt }
+  reclaim_part a b (Ok step.Beyond) turns numbers left counted takes = absurd takes
   reclaim_part a b (Err e) turns numbers left counted takes = record { turns = turn_fails first g a b e (Err e) (Err e) turns refl refl; numbers = tt; left = tt; counted = tt; lets = tt }
 
   pub freed_part : (a b : View D) (result : Result Emptied StoreFault) → Turns first g a b result → IfOk result (λ (t : Emptied). b.next ≡ next_emptied t a.next)
       → OnOk result (AddsItems 0 a.meta b.meta) → OnOk result (b.now.counted ≡ a.now.counted) → Tries false first g a b (done_freed result)
-  freed_part a b (Ok emptied.OneRecord) turns numbers left counted = record { turns = turn_ok first g a b emptied.OneRecord (Some Cleaned) turns; numbers = numbers; left = left; counted = counted; lets = tt }
+  freed_part a b (Ok emptied.OneRecord) turns numbers left counted = record { turns = turn_ok first g a b emptied.OneRecord (Some (Logs Cleaned)) turns; numbers = numbers; left = left; counted = counted; lets = tt }
   freed_part a b (Ok emptied.Nothing) turns numbers left counted = record { turns = turn_ok first g a b emptied.Nothing None turns; numbers = numbers; left = left; counted = counted; lets = tt }
   freed_part a b (Err e) turns numbers left counted = record { turns = turn_fails first g a b e (Err e) (Err e) turns refl refl; numbers = tt; left = tt; counted = tt; lets = tt }
 
   pub unlinked_part : (a b : View D) (result : Result Emptied StoreFault) → Turns first g a b result → IfOk result (λ (t : Emptied). b.next ≡ next_emptied t a.next)
       → OnOk result (AddsItems 1 a.meta b.meta) → OnOk result (b.now.counted ≡ a.now.counted) → Tries true first g a b (done_unlinked result)
-  unlinked_part a b (Ok emptied.OneRecord) turns numbers left counted = record { turns = turn_ok first g a b emptied.OneRecord (Some Unlinked) turns; numbers = numbers; left = left; counted = counted; lets = refl }
+  unlinked_part a b (Ok emptied.OneRecord) turns numbers left counted = record { turns = turn_ok first g a b emptied.OneRecord (Some (Logs Unlinked)) turns; numbers = numbers; left = left; counted = counted; lets = refl }
   unlinked_part a b (Ok emptied.Nothing) turns numbers left counted = part_reads true emptied.Nothing a b (turn_reads emptied.Nothing a b turns numbers counted)
   unlinked_part a b (Err e) turns numbers left counted = record { turns = turn_fails first g a b e (Err e) (Err e) turns refl refl; numbers = tt; left = tt; counted = tt; lets = tt }

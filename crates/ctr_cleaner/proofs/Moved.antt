@@ -12,9 +12,10 @@ use Rattle.ctr_emptying.specs.cursor_Position.{Position}
 use Rattle.ctr_emptying.specs.cursor_Pass.{next_position}
 use Rattle.ctr_emptying.specs.cursor_Standing.{IsCountedPosition}
 use Rattle.ctr_cleaner.specs.declared.done.CleanTurn.{CleanTurn}
-use Rattle.ctr_cleaner.specs.declared.done.CleanTurn.TheVariants.{Moved, Over}
+use Rattle.ctr_cleaner.specs.declared.done.CleanTurn.TheVariants.{Moved, Over, Left}
+use Rattle.ctr_cleaner.specs.declared.done.Dealt.TheVariants.{Unseen}
 use Rattle.ctr_cleaner.specs.declared.done.MayEmpty.{MayEmpty}
-use Rattle.ctr_cleaner.specs.Turning.{Heeded, PassesPosition, TurnsAt, next_cleaned, LeavesRoomBy, IsTurnWithin, LeavesCounts}
+use Rattle.ctr_cleaner.specs.Turning.{Heeded, PassesPosition, LeavesPosition, TurnsAt, next_cleaned, LeavesRoomBy, IsTurnWithin, LeavesCounts}
 use Rattle.ctr_cleaner.specs.Parts.{Tries, DidAt, IsPassed}
 
 -- what a turn answers then
@@ -56,3 +57,21 @@ moved_by h x s m t y z is did same next = passes_to h x s t z (record {
   nothing = did.1.1;
   behind = sym (subst (λ (u : State). y ≡ next_position (site_of u) x) did.0 next) ∙ is;
 })
+
+-- where that wasn't seen, its counts are those of before too
+pub left_counts : {D : Type 0} (first : Image) (g : Ghosts D) (may : MayEmpty) (old mid new : View D) (y : Option Position) → Tries may.unlink first g old mid (Ok (Some Unseen))
+    → LeavesPage {T = Option Position} first g mid new (Ok y) → IfSome y (IsCountedPosition mid.now.counted) → LeavesCounts may old new (Left y)
+left_counts first g may old mid new y part leaves inside = record {
+  numbers = leaves.keeps.next ∙ part.numbers;
+  room = subst (λ (m : TablesKept). AddsItems 0 old.meta m) (sym leaves.keeps.meta) part.left;
+  counted = leaves.keeps.counted ∙ part.counted;
+  within = subst (λ n. IfSome y (IsCountedPosition n)) (sym leaves.keeps.counted) inside;
+}
+
+-- and so it is at its position
+pub left_by : (h : Heeded) (x : Position) (s m t : State) (y : Option Position) → DidAt h x (IsPassed h x s) s m (Some Unseen) → t ≡ m → y ≡ next_position (site_of m) x → LeavesPosition h x y s t
+left_by h x s m t y did same next = record {
+  same = same ∙ did.0;
+  unseen = did.1;
+  behind = sym (subst (λ (u : State). y ≡ next_position (site_of u) x) did.0 next);
+}

@@ -25,30 +25,33 @@ use Rattle.ctr_emptying.specs.declared.emptied.Emptied.TheVariants as emptied
 use Rattle.ctr_emptying.specs.cursor_Position.{Position}
 use Rattle.ctr_cleaner.specs.declared.done.CleanTurn.{CleanTurn}
 use Rattle.ctr_cleaner.specs.declared.done.CleanTurn.TheVariants as turn
+use Rattle.ctr_cleaner.specs.declared.done.Dealt.{Dealt}
+use Rattle.ctr_cleaner.specs.declared.done.Dealt.TheVariants.{Logged as Logs, Unseen}
 use Rattle.ctr_cleaner.specs.declared.done.Logged.{Logged}
 use Rattle.ctr_cleaner.specs.declared.done.Logged.TheVariants.{Cleaned, Unlinked, Reclaimed}
-use Rattle.ctr_cleaner.specs.Finding.{IsFreeRow, HasNothingAt}
+use Rattle.ctr_cleaner.specs.Finding.{IsFreeRow, HasNothingAt, IsUnseenAt}
 use Rattle.ctr_cleaner.specs.Turning.{Heeded, MayAll, CleansFreely}
 
--- what a part did: it logged one record, or nothing
+-- what a part did: it logged one record, or nothing, or didn't see whether there is anything to do
 abbrev pub Done : Type 0
-Done = Option Logged
+Done = Option Dealt
 
 -- the log's next number behind a part
 abbrev pub next_done : Done → ℕ → ℕ
 next_done None next = next
-next_done (Some logged) next = next + 1
+next_done (Some (Logs logged)) next = next + 1
+next_done (Some Unseen) next = next
 
 -- what a part leaves of the room of the tables
 abbrev pub PartLeavesRoom : Done → TablesKept → TablesKept → Type 0
-PartLeavesRoom (Some Unlinked) k l = AddsItems 1 k l
-PartLeavesRoom (Some Reclaimed) k l =
+PartLeavesRoom (Some (Logs Unlinked)) k l = AddsItems 1 k l
+PartLeavesRoom (Some (Logs Reclaimed)) k l =
     AddsItems 0 k l × (length l.tables.items + 1 ≡ length k.tables.items)
 PartLeavesRoom other k l = AddsItems 0 k l
 
 -- a page leaves its chain only where it may
 abbrev pub IsLetGo : Bool → Done → Type 0
-IsLetGo may (Some Unlinked) = may ≡ true
+IsLetGo may (Some (Logs Unlinked)) = may ≡ true
 IsLetGo may other = Unit {0}
 
 -- A part of a turn logged a record, or read pages; it counts as many, and takes a page from its
@@ -67,10 +70,12 @@ turn_logged Cleaned = turn.Cleaned
 turn_logged Unlinked = turn.Unlinked
 turn_logged Reclaimed = turn.Reclaimed
 
--- What a part did at a position: a record was logged; or nothing, and this holds.
+-- What a part did at a position: a record was logged; or nothing, and this holds; or it isn't seen
+-- whether there is anything to do.
 abbrev pub DidAt : Heeded → Position → Type 0 → State → State → Done → Type 0
 DidAt h x Found s t None = (t ≡ s) × Found
-DidAt h x Found s t (Some logged) = CleansFreely h x (turn_logged logged) s t
+DidAt h x Found s t (Some (Logs logged)) = CleansFreely h x (turn_logged logged) s t
+DidAt h x Found s t (Some Unseen) = (t ≡ s) × IsUnseenAt h.locks h.low x s
 
 -- What holds where a whole turn finds nothing to do: no page waits to be free again, and there is
 -- nothing at the position, where everything may be done in a table that is dead.
@@ -123,24 +128,26 @@ pub record IsOpenSlot (locks : Locks) (e : ℕ) (at : Place) (s : State) : Type 
 
 -- of a step at a place
 abbrev pub done_step : Result Step StoreFault → Result Done StoreFault
-done_step (Ok step.Cleaned) = Ok (Some Cleaned)
+done_step (Ok step.Cleaned) = Ok (Some (Logs Cleaned))
 done_step (Ok step.Nothing) = Ok None
+done_step (Ok step.Beyond) = Ok (Some Unseen)
 done_step (Err e) = Err e
 
 -- of a step that gives a page back
 abbrev pub done_reclaim : Result Step StoreFault → Result Done StoreFault
-done_reclaim (Ok step.Cleaned) = Ok (Some Reclaimed)
+done_reclaim (Ok step.Cleaned) = Ok (Some (Logs Reclaimed))
 done_reclaim (Ok step.Nothing) = Ok None
+done_reclaim (Ok step.Beyond) = Ok (Some Unseen)
 done_reclaim (Err e) = Err e
 
 -- of a step at an entry that is dead
 abbrev pub done_freed : Result Emptied StoreFault → Result Done StoreFault
-done_freed (Ok emptied.OneRecord) = Ok (Some Cleaned)
+done_freed (Ok emptied.OneRecord) = Ok (Some (Logs Cleaned))
 done_freed (Ok emptied.Nothing) = Ok None
 done_freed (Err e) = Err e
 
 -- of a page that leaves its chain
 abbrev pub done_unlinked : Result Emptied StoreFault → Result Done StoreFault
-done_unlinked (Ok emptied.OneRecord) = Ok (Some Unlinked)
+done_unlinked (Ok emptied.OneRecord) = Ok (Some (Logs Unlinked))
 done_unlinked (Ok emptied.Nothing) = Ok None
 done_unlinked (Err e) = Err e

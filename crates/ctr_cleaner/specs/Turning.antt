@@ -1,5 +1,5 @@
 -- What a turn of the cleaner did.
-use Rattle.std.specs.Prelude.{◌≡◌, ◌≤◌, ℕ, ◌+◌, Bool, true, drop, length, Option, Some, None}
+use Rattle.std.specs.Prelude.{◌≡◌, ◌≤◌, ℕ, ◌+◌, Bool, true, drop, length, Option, Some, None, IfSome}
 use Rattle.ctr_rec.specs.declared.record.SlogItem.TheVariants.{FreeOf}
 use Rattle.ctr_meta.specs.Kept.{TablesKept}
 use Rattle.ctr_area.specs.Areas.{Title, Area}
@@ -22,8 +22,8 @@ use Rattle.ctr_emptying.specs.cursor_Pass.{next_position}
 use Rattle.ctr_emptying.specs.cursor_Standing.{IsCountedPosition, TakesPage}
 use Rattle.ctr_cleaner.specs.declared.done.MayEmpty.{MayEmpty}
 use Rattle.ctr_cleaner.specs.declared.done.CleanTurn.{CleanTurn}
-use Rattle.ctr_cleaner.specs.declared.done.CleanTurn.TheVariants.{Cleaned, Unlinked, Reclaimed, Moved, Over}
-use Rattle.ctr_cleaner.specs.Finding.{IsFreeRow, HasNothingAt}
+use Rattle.ctr_cleaner.specs.declared.done.CleanTurn.TheVariants.{Cleaned, Unlinked, Reclaimed, Moved, Over, Left}
+use Rattle.ctr_cleaner.specs.Finding.{IsFreeRow, HasNothingAt, IsUnseenAt}
 
 -- What the cleaner heeds: below which number everybody sees what is committed, who has locked which
 -- rows, how many items at the front of the secondary log are undo's, and what may be done in a
@@ -90,6 +90,13 @@ pub record PassesPosition (h : Heeded) (x : Position) (y : Option Position) (s t
   pub nothing : MayAll h.may → HasNothingAt (IsFreeRow h.locks s) h.low x s
   pub behind : next_position (site_of s) x ≡ y
 
+-- The state is as it was. At the position it isn't seen whether there is anything to do. And this is
+-- the position behind it, if any.
+pub record LeavesPosition (h : Heeded) (x : Position) (y : Option Position) (s t : State) : Type 0 where
+  pub same : t ≡ s
+  pub unseen : IsUnseenAt h.locks h.low x s
+  pub behind : next_position (site_of s) x ≡ y
+
 -- What a turn did at its position.
 abbrev pub TurnsAt : Heeded → Position → State → State → CleanTurn → Type 0
 TurnsAt h x s t Cleaned = CleansFreely h x Cleaned s t
@@ -97,6 +104,7 @@ TurnsAt h x s t Unlinked = CleansFreely h x Unlinked s t
 TurnsAt h x s t Reclaimed = CleansFreely h x Reclaimed s t
 TurnsAt h x s t (Moved y) = PassesPosition h x (Some y) s t
 TurnsAt h x s t Over = PassesPosition h x None s t
+TurnsAt h x s t (Left y) = LeavesPosition h x y s t
 
 -- the log's next number behind a turn
 abbrev pub next_cleaned : CleanTurn → ℕ → ℕ
@@ -105,6 +113,7 @@ next_cleaned Unlinked next = next + 1
 next_cleaned Reclaimed next = next + 1
 next_cleaned (Moved y) next = next
 next_cleaned Over next = next
+next_cleaned (Left y) next = next
 
 -- What a turn leaves of the room of the tables: an item is added; one is gone; or no item is added.
 -- No number was drawn.
@@ -119,6 +128,7 @@ LeavesRoomBy turn k l = AddsItems 0 k l
 abbrev pub IsTurnWithin : Bool → ℕ → CleanTurn → Type 0
 IsTurnWithin may_unlink counted Unlinked = may_unlink ≡ true
 IsTurnWithin may_unlink counted (Moved y) = IsCountedPosition counted y
+IsTurnWithin may_unlink counted (Left y) = IfSome y (IsCountedPosition counted)
 IsTurnWithin may_unlink counted turn = Unit {0}
 
 -- There is room for a record, and for an item of the secondary log where a page may leave its

@@ -27,6 +27,8 @@ pub enum CleanTurn {
     Moved { to: Position },
     /// There was nothing to do, and the pass is over.
     Over,
+    /// It wasn't seen whether there is anything to do: the pass goes on there, or is over.
+    Left { to: Option<Position> },
 }
 
 /// What the record did that a part of a turn logged.
@@ -37,8 +39,17 @@ pub(crate) enum Logged {
     Reclaimed,
 }
 
+/// What a part of a turn came to, where that wasn't nothing.
+#[derive(Clone, Copy, Debug, PartialEq, Eq)]
+pub(crate) enum Dealt {
+    /// A record was logged.
+    Logged(Logged),
+    /// It wasn't seen whether there is anything to do.
+    Unseen,
+}
+
 /// What a part of a turn did; none for nothing.
-pub(crate) type Done = Option<Logged>;
+pub(crate) type Done = Option<Dealt>;
 
 /// What a turn did that logged a record.
 pub(crate) fn told(logged: Logged) -> CleanTurn
@@ -57,8 +68,9 @@ pub(crate) fn stepped(step: Result<Step, StoreFault>) -> Result<Done, StoreFault
 {
     match step {
         Err(fault) => Err(fault),
-        Ok(Step::Cleaned) => Ok(Some(Logged::Cleaned)),
+        Ok(Step::Cleaned) => Ok(Some(Dealt::Logged(Logged::Cleaned))),
         Ok(Step::Nothing) => Ok(None),
+        Ok(Step::Beyond) => Ok(Some(Dealt::Unseen)),
     }
 }
 
@@ -68,8 +80,9 @@ pub(crate) fn reclaimed(step: Result<Step, StoreFault>) -> Result<Done, StoreFau
 {
     match step {
         Err(fault) => Err(fault),
-        Ok(Step::Cleaned) => Ok(Some(Logged::Reclaimed)),
+        Ok(Step::Cleaned) => Ok(Some(Dealt::Logged(Logged::Reclaimed))),
         Ok(Step::Nothing) => Ok(None),
+        Ok(Step::Beyond) => Ok(Some(Dealt::Unseen)),
     }
 }
 
@@ -79,7 +92,7 @@ pub(crate) fn freed(step: Result<Emptied, StoreFault>) -> Result<Done, StoreFaul
 {
     match step {
         Err(fault) => Err(fault),
-        Ok(Emptied::OneRecord) => Ok(Some(Logged::Cleaned)),
+        Ok(Emptied::OneRecord) => Ok(Some(Dealt::Logged(Logged::Cleaned))),
         Ok(Emptied::Nothing) => Ok(None),
     }
 }
@@ -90,7 +103,7 @@ pub(crate) fn unlinked(step: Result<Emptied, StoreFault>) -> Result<Done, StoreF
 {
     match step {
         Err(fault) => Err(fault),
-        Ok(Emptied::OneRecord) => Ok(Some(Logged::Unlinked)),
+        Ok(Emptied::OneRecord) => Ok(Some(Dealt::Logged(Logged::Unlinked))),
         Ok(Emptied::Nothing) => Ok(None),
     }
 }

@@ -35,7 +35,7 @@ fn unlink_rows<D: Disk, O: Origin>(store: &mut Store<D, O>, entry: u8) -> Result
         match unlinked(unlink_rows_at(store, entry, bucket)) {
             Err(fault) => return Err(fault),
             Ok(None) => {}
-            Ok(Some(logged)) => return Ok(Some(logged)),
+            Ok(Some(dealt)) => return Ok(Some(dealt)),
         }
     }
     Ok(None)
@@ -55,7 +55,7 @@ fn unlink_any<D: Disk, O: Origin>(store: &mut Store<D, O>, entry: u8) -> Result<
     match unlink_rows(store, entry) {
         Err(fault) => Err(fault),
         Ok(None) => unlinked(unlink_versions_at(store, entry)),
-        Ok(Some(logged)) => Ok(Some(logged)),
+        Ok(Some(dealt)) => Ok(Some(dealt)),
     }
 }
 
@@ -101,7 +101,7 @@ fn unlink_or_free<D: Disk, O: Origin>(
     match unlink_any(store, entry) {
         Err(fault) => Err(fault),
         Ok(None) => free_where_it_may(store, entry, may_free),
-        Ok(Some(logged)) => Ok(Some(logged)),
+        Ok(Some(dealt)) => Ok(Some(dealt)),
     }
 }
 

@@ -67,6 +67,6 @@ pub(crate) fn clean_entry<D: Disk, O: Origin>(
     match stepped(make_dead_at(store, low, entry)) {
         Err(fault) => Err(fault),
         Ok(None) => clean_dead(store, entry, may),
-        Ok(Some(logged)) => Ok(Some(logged)),
+        Ok(Some(dealt)) => Ok(Some(dealt)),
     }
 }

@@ -5,12 +5,16 @@ ghost use Rattle.ctr_area.specs.Sound.{IsAmong, IsBare};
 ghost use Rattle.ctr_walk.specs.record_effects_States.{area_in};
 ghost use Rattle.ctr_walk.specs.record_effects_Standing.{IsDatabaseState};
 ghost use Rattle.ctr_actions.specs.Sites.{site_of};
+ghost use Rattle.ctr_actions.specs.Actions.{Action, Owes};
+ghost use Rattle.ctr_actions.specs.Cleaning.{IsCleaning};
 ghost use Rattle.ctr_locks.specs.Held.{session_locks};
+ghost use Rattle.ctr_emptying.specs.clean_Choosing.{passes_below};
 ghost use Rattle.ctr_emptying.specs.clean_Lists.{HasNoFree};
 ghost use Rattle.ctr_emptying.specs.clean_Steps.{Locks};
 ghost use Rattle.ctr_emptying.specs.cursor_Position.{Position as PositionOf};
 ghost use Rattle.ctr_emptying.specs.cursor_Pass.{IsWholePass};
-ghost use Rattle.ctr_cleaner.specs.Finding.{IsFreeRow, HasNothingAt};
+ghost use Rattle.ctr_emptying.specs.cursor_Standing.{IsPosition};
+ghost use Rattle.ctr_cleaner.specs.Finding.{IsFreeRow, HasNothingAt, IsUnseenAt};
 
 use ctr_actions::{a_site_with_nothing_to_clean_is_bare, pages_are_in_bounds};
 use ctr_emptying::a_pass_comes_by_every_place;
@@ -25,6 +29,13 @@ pub fn a_pass_that_finds_nothing_leaves_it_bare()
     a_site_with_nothing_to_clean_is_bare();
     pages_are_in_bounds();
 }
+
+/// Where no transaction is open and everybody sees what is committed, and at a position it isn't seen whether there is anything to do, an action of the
+/// cleaner's is owed somewhere. So no turn says so of pages that have nothing to clean, and a pass over them is idle.
+pub fn what_is_unseen_is_due()
+    ensures { (locks : Locks) (low : ℕ) (x : PositionOf) (s : State) → IsDatabaseState s → s.tables.opens ≡ [] → s.tables.next ≤ low → IsPosition x (site_of s)
+        → IsUnseenAt locks low x s → (a : Action) × IsCleaning (passes_below low s.tables) a (site_of s) × Owes 0 a (site_of s) }
+{}
 
 /// What was found at a position stays found where fewer rows are free, and where more pages are counted; and where nothing is locked every row was free.
 pub fn what_is_found_stays()

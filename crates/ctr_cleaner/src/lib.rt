@@ -20,5 +20,7 @@ pub use ctr_emptying::{
 };
 pub use ctr_locking::{a_cleaned_world_is_kept, what_nobody_has_locked_is_free};
 pub use done::{CleanTurn, MayEmpty};
-pub use laws::{a_pass_that_finds_nothing_leaves_it_bare, what_is_found_stays};
+pub use laws::{
+    a_pass_that_finds_nothing_leaves_it_bare, what_is_found_stays, what_is_unseen_is_due,
+};
 pub use turning::turn;

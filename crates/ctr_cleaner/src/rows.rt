@@ -75,7 +75,7 @@ fn clean_live<D: Disk, O: Origin>(
     match stepped(clean_slot(store, locks, low, entry, place)) {
         Err(fault) => Err(fault),
         Ok(None) => stepped(cut_at(store, locks, low, entry, place)),
-        Ok(Some(logged)) => Ok(Some(logged)),
+        Ok(Some(dealt)) => Ok(Some(dealt)),
     }
 }
 

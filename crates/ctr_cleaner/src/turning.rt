@@ -10,7 +10,7 @@ ghost use Rattle.ctr_cleaner.specs.Finding.{IsFreeRow, HasNothingAt};
 ghost use Rattle.ctr_cleaner.specs.Turning.{heeding, MayAll, TurnsAt, HasRoomFor, LeavesCounts};
 ghost use Rattle.ctr_cleaner.specs.Parts.{Tries, DidAt, IsPassed};
 
-use crate::done::{CleanTurn, Done, MayEmpty, reclaimed, stepped, told};
+use crate::done::{CleanTurn, Dealt, Done, MayEmpty, reclaimed, stepped, told};
 use crate::entries::clean_entry;
 use crate::going::{a_part_goes_on, a_step_is_a_part};
 use crate::kept::clean_kept;
@@ -68,7 +68,7 @@ fn clean_first<D: Disk, O: Origin>(
     match reclaimed(reclaim(store, spared)) {
         Err(fault) => Err(fault),
         Ok(None) => clean_at(store, locks, low, may, at),
-        Ok(Some(logged)) => Ok(Some(logged)),
+        Ok(Some(dealt)) => Ok(Some(dealt)),
     }
 }
 
@@ -77,7 +77,8 @@ fn clean_first<D: Disk, O: Origin>(
 /// A page that left its chain is given back before anything else is done, but for those of the first `spared` items of the secondary log, which undo
 /// gives back. Then, at the position: the table of an entry dies whose drop everybody sees, and one that is dead loses a page, or its entry
 /// is freed, where they may; a slot loses its head, is trimmed or its chain is cut; a version entry is freed; an aborted transaction is forgotten. Nothing is done
-/// to a row that is locked, in an entry of its table's name. Everybody sees what is committed below `low`. It takes no memory.
+/// to a row that is locked, in an entry of its table's name. Where that wasn't seen to be all (see [`CleanTurn::Left`]), the pass goes on, and the turn says
+/// so. Everybody sees what is committed below `low`. It takes no memory.
 pub fn turn<D: Disk, O: Origin>(
     store: &mut Store<D, O>,
     locks: &KeyLocks,
@@ -94,7 +95,7 @@ pub fn turn<D: Disk, O: Origin>(
     // An item is added where a page left its chain, which it does only where it may, and one is gone where a page is free again. As many pages are counted, and
     // a pass moves to what is there.
     ensures counts { IfOk result (LeavesCounts may store.old store.new) }
-    // That is an action of the cleaner's, which owes nothing more; or there is none at the position, and this is the one behind it.
+    // That is an action of the cleaner's, which owes nothing more; or there is none at the position, or that isn't seen, and this is the one behind it.
     ensures cleans { WhereSound O.first D.Disk (IsDatabaseState store.old.now → IsPosition at (site_of store.old.now)
         → IfOk result (TurnsAt (heeding low locks.now spared may) at store.old.now store.new.now)) }
     // It is refused for no other cause than that the disk failed.
@@ -104,7 +105,11 @@ pub fn turn<D: Disk, O: Origin>(
     a_turn_goes_on::<D, Done, CleanTurn>();
     match clean_first(store, locks, low, spared, may, at) {
         Err(fault) => Err(fault),
-        Ok(Some(logged)) => Ok(told(logged)),
+        Ok(Some(Dealt::Logged(logged))) => Ok(told(logged)),
+        Ok(Some(Dealt::Unseen)) => match advance(store, at) {
+            Err(fault) => Err(fault),
+            Ok(to) => Ok(CleanTurn::Left { to }),
+        },
         Ok(None) => match advance(store, at) {
             Err(fault) => Err(fault),
             Ok(None) => Ok(CleanTurn::Over),

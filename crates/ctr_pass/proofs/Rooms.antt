@@ -6,7 +6,7 @@ use Rattle.ctr_disk.specs.declared.disk.Disk.{Ghosts}
 use Rattle.ctr_types.specs.declared.statement.Statement.{Statement}
 use Rattle.ctr_walk.specs.store_Store.{View}
 use Rattle.ctr_cleaner.specs.declared.done.CleanTurn.{CleanTurn}
-use Rattle.ctr_cleaner.specs.declared.done.CleanTurn.TheVariants.{Cleaned, Unlinked, Reclaimed, Moved, Over}
+use Rattle.ctr_cleaner.specs.declared.done.CleanTurn.TheVariants.{Cleaned, Unlinked, Reclaimed, Moved, Over, Left}
 use Rattle.ctr_cleaner.specs.Turning.{IsTurnWithin, LeavesRoomBy}
 use Rattle.ctr_meta.specs.Kept.{TablesKept}
 use Rattle.ctr_exec.specs.ctr_control.kept_Turns.{Start}
@@ -78,6 +78,7 @@ next_behind Unlinked k l left = left.1
 next_behind Reclaimed k l left = left.0.1
 next_behind (Moved y) k l left = left.1
 next_behind Over k l left = left.1
+next_behind (Left y) k l left = left.1
 
 pub room_behind : (did : CleanTurn) (txns : TxnsHeld) (unlink : Bool) (counted : ℕ) (k l : TablesKept) → LeavesRoomBy did k l → IsTurnWithin unlink counted did → unlink ≡ txns.cleaner → HasItemRoom txns k
     → HasItemRoom (with_cleaner (keeps_room unlink did) txns) l
@@ -89,3 +90,4 @@ room_behind Reclaimed txns unlink counted k l left within is room =
     let now = kept_with txns true true (λ i. true) in omega (arith, now, left.0.0.2, left.1, room)
 room_behind (Moved y) txns unlink counted k l left within is room = let now = kept_with txns unlink txns.cleaner is in omega (arith, now, left.0.1, room)
 room_behind Over txns unlink counted k l left within is room = let now = kept_with txns unlink txns.cleaner is in omega (arith, now, left.0.1, room)
+room_behind (Left y) txns unlink counted k l left within is room = let now = kept_with txns unlink txns.cleaner is in omega (arith, now, left.0.1, room)

@@ -18,7 +18,7 @@ use Rattle.ctr_cleaner.specs.clean_Lists.{HasNoFree}
 use Rattle.ctr_cleaner.specs.declared.done.CleanTurn.{CleanTurn}
 use Rattle.ctr_cleaner.specs.declared.done.CleanTurn.TheVariants as did
 use Rattle.ctr_cleaner.specs.Finding.{IsFreeRow, HasNothingAt}
-use Rattle.ctr_cleaner.specs.Turning.{Heeded, CleansFreely, PassesPosition, TurnsAt, next_cleaned}
+use Rattle.ctr_cleaner.specs.Turning.{Heeded, CleansFreely, PassesPosition, LeavesPosition, TurnsAt, next_cleaned}
 use Rattle.ctr_pass.specs.declared.going.Went.{Went}
 use Rattle.ctr_pass.specs.declared.pass.Pass.{Pass}
 use Rattle.ctr_pass.specs.declared.pass.Phase.{Phase}
@@ -122,12 +122,31 @@ module _
       phase = λ calm rest. phase_back None passes unlogged pass.phase refl refl rest;
     }
 
+    -- ---- it wasn't seen whether there is anything to do
+
+    left_on : (y : Option Position) → LeavesPosition h w.from y v.state u.state → u.next ≡ v.next → KeepsPass (pass_on h.may.unlink y (record pass { phase = Disturbed })) u
+    left_on (Some z) leaves unlogged = record {
+      before = omega (arith, unlogged);
+      seen = sees;
+      stands = λ same. subst (λ (s : State). IsPosition z (site_of s)) (sym leaves.same) (leads v.state w.from z database turns.went.0 leaves.behind);
+      phase = λ calm rest. known h.may.unlink
+          (λ may. subst (λ b. IsInPhase (cond b Disturbed Disturbed) u.undos z u.state) (sym may) tt)
+          (λ no. subst (λ b. IsInPhase (cond b Disturbed Disturbed) u.undos z u.state) (sym no) tt);
+    }
+    left_on None leaves unlogged = record {
+      before = omega (arith, unlogged);
+      seen = sees;
+      stands = λ same. omega arith;
+      phase = λ calm rest. begins u.state;
+    }
+
     by_its : (turn : CleanTurn) → TurnsAt h w.from v.state u.state turn → u.next ≡ next_cleaned turn v.next → KeepsPass (pass_behind pass w.from turn h.may.unlink u.next) u
     by_its did.Cleaned cleans next = logged did.Cleaned cleans
     by_its did.Unlinked cleans next = logged did.Unlinked cleans
     by_its did.Reclaimed cleans next = logged did.Reclaimed cleans
     by_its (did.Moved z) passes next = moved z passes next
     by_its did.Over passes next = over passes next
+    by_its (did.Left y) leaves next = left_on y leaves next
 
     pub kept_by_turn : KeepsPass (pass_behind pass w.from w.did h.may.unlink u.next) u
     kept_by_turn = by_its w.did turns.went.1 turns.next

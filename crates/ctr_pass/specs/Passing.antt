@@ -64,13 +64,15 @@ abbrev pub pass_on : Bool → Option Position → Pass → Pass
 pass_on may (Some y) p = record p { at = y; phase = if may then p.phase else Disturbed }
 pass_on may None p = record p { at = start; phase = phase_over may p.phase }
 
--- a pass behind a turn: a record disturbs it
+-- A pass behind a turn: a record disturbs it, and so does a position at which it wasn't seen whether
+-- there is anything to do.
 abbrev pub pass_behind : Pass → Position → CleanTurn → Bool → ℕ → Pass
 pass_behind p from did.Cleaned may next = record p { at = from; next = next; phase = Disturbed }
 pass_behind p from did.Unlinked may next = record p { at = from; next = next; phase = Disturbed }
 pass_behind p from did.Reclaimed may next = record p { at = from; next = next; phase = Disturbed }
 pass_behind p from (did.Moved y) may next = pass_on may (Some y) p
 pass_behind p from did.Over may next = pass_on may None p
+pass_behind p from (did.Left y) may next = pass_on may y (record p { phase = Disturbed })
 
 -- whether room is kept for an item of the cleaner's: not while a page that left its chain waits
 abbrev pub keeps_room : Bool → CleanTurn → Bool
@@ -79,3 +81,4 @@ keeps_room may did.Unlinked = false
 keeps_room may did.Reclaimed = true
 keeps_room may (did.Moved y) = may
 keeps_room may did.Over = may
+keeps_room may (did.Left y) = may

@@ -1,7 +1,7 @@
 // Where a pass of the cleaner is.
 ghost use Rattle.std.specs.Prelude.{◌≡◌, true, false, None, Some, drop};
 ghost use Rattle.ctr_pass.specs.Passing.{ends_transaction as ends_one, keeps_room as room_kept, noted as noted_by, pass_behind, pass_on, some_end};
-ghost use Rattle.ctr_pass.specs.declared.pass.Phase.TheVariants.{Calm, Idle};
+ghost use Rattle.ctr_pass.specs.declared.pass.Phase.TheVariants.{Disturbed, Calm, Idle};
 ghost use Rattle.ctr_cleaner.specs.cursor_Pass.{start};
 
 use crate::going::Went;
@@ -11,7 +11,7 @@ use ctr_types::{Entry, Reply};
 /// How a pass of the cleaner went so far.
 #[derive(Clone, Copy, Debug, PartialEq, Eq)]
 pub enum Phase {
-    /// Something happened since it began, a record or the end of a transaction.
+    /// Something happened since it began, a record or the end of a transaction; or somewhere it wasn't seen whether there is anything to do.
     Disturbed,
     /// Nothing happened, and nothing was found to do.
     Calm,
@@ -138,6 +138,22 @@ impl Pass {
         }
     }
 
+    // It wasn't seen whether there is anything to do, and this is behind it, or the pass is over.
+    fn left(self, to: Option<Position>, may_unlink: bool) -> Pass
+        ensures { result ≡ pass_on may_unlink to (record self { phase = Disturbed }) }
+    {
+        let disturbed = Pass {
+            at: self.at,
+            next: self.next,
+            seen: self.seen,
+            phase: Phase::Disturbed,
+        };
+        match to {
+            None => disturbed.over(may_unlink),
+            Some(to) => disturbed.moved(to, may_unlink),
+        }
+    }
+
     /// The pass behind a turn, behind which the log's next record has this number. `may_unlink` is whether a page might leave its chain.
     pub fn behind(self, went: Went, may_unlink: bool, next: u64) -> Pass
         ensures { result ≡ pass_behind self went.from went.did may_unlink next }
@@ -151,6 +167,7 @@ impl Pass {
             },
             CleanTurn::Moved { to } => self.moved(to, may_unlink),
             CleanTurn::Over => self.over(may_unlink),
+            CleanTurn::Left { to } => self.left(to, may_unlink),
         }
     }
 }
@@ -160,7 +177,8 @@ pub fn keeps_room(kept: bool, did: CleanTurn) -> bool
     ensures { result ≡ room_kept kept did }
 {
     match did {
-        CleanTurn::Cleaned | CleanTurn::Moved { .. } | CleanTurn::Over => kept,
+        CleanTurn::Cleaned | CleanTurn::Moved { .. } | CleanTurn::Over | CleanTurn::Left { .. } =>
+            kept,
         CleanTurn::Unlinked => false,
         CleanTurn::Reclaimed => true,
     }

@@ -1,5 +1,5 @@
 -- A turn of the cleaner in a World.
-use Rattle.std.proofs.Common.{◌≡◌, ◌⊎◌, ⊎_elim, inl, inr, ℕ, ◌+◌, ◌<◌, ◌≤◌, Bool, true, false, List, [], None, Ok, refl, sym, ◌∙◌, ap, subst, arith}
+use Rattle.std.proofs.Common.{◌≡◌, ◌⊎◌, ⊎_elim, inl, inr, ℕ, ◌+◌, ◌<◌, ◌≤◌, Bool, true, false, List, [], None, Some, Ok, refl, sym, ◌∙◌, ap, subst, arith}
 use Rattle.std.specs.Prelude.{IsTrue, length}
 use Rattle.ctr_types.specs.declared.tape.Entry.{Entry}
 use Rattle.ctr_disk.specs.declared.disk.Disk.{Ghosts}
@@ -29,9 +29,9 @@ use Rattle.ctr_pass.specs.exec_Sessions.{AreSeated, ShowsSessions, sessions_held
 use Rattle.ctr_pass.proofs.exec_Going.{shows_behind}
 use Rattle.ctr_pass.proofs.session_world_Resting.{world_rests}
 use Rattle.ctr_pass.specs.cleaner_CleanTurn.{CleanTurn}
-use Rattle.ctr_pass.specs.cleaner_CleanTurn.TheVariants.{Cleaned, Unlinked, Reclaimed, Moved, Over}
+use Rattle.ctr_pass.specs.cleaner_CleanTurn.TheVariants.{Cleaned, Unlinked, Reclaimed, Moved, Over, Left}
 use Rattle.ctr_pass.specs.cleaner_MayEmpty.{MayEmpty}
-use Rattle.ctr_pass.specs.cleaner_Turning.{CleansFreely, Heeded, LeavesCounts, TurnsAt, heeding, next_cleaned}
+use Rattle.ctr_pass.specs.cleaner_Turning.{CleansFreely, Heeded, IsTurnWithin, TurnsAt, heeding, next_cleaned}
 use Rattle.ctr_pass.specs.cursor_Position.{Position}
 use Rattle.ctr_pass.specs.cursor_Standing.{IsCountedPosition}
 use Rattle.ctr_pass.specs.declared.going.Went.{Went}
@@ -83,21 +83,17 @@ cleans_or_passes h x s t Unlinked does = inl (does, λ n. refl)
 cleans_or_passes h x s t Reclaimed does = inl (does, λ n. refl)
 cleans_or_passes h x s t (Moved y) does = inr (does.same, λ n. refl)
 cleans_or_passes h x s t Over does = inr (does.same, λ n. refl)
+cleans_or_passes h x s t (Left y) does = inr (does.same, λ n. refl)
 
 -- where the pass is behind it
-pub place_behind : (p : Pass) (from : Position) (did : CleanTurn) (may : Bool) (next counted : ℕ) → IsCountedPosition counted from → ((y : Position) → did ≡ Moved y → IsCountedPosition counted y) → IsCountedPosition counted (pass_behind p from did may next).at
-place_behind p from Cleaned may next counted is moved = is
-place_behind p from Unlinked may next counted is moved = is
-place_behind p from Reclaimed may next counted is moved = is
-place_behind p from (Moved y) may next counted is moved = moved y refl
-place_behind p from Over may next counted is moved = omega arith
-
-pub within_moved : {D : Type 0} (may : MayEmpty) (a b : View D) (did : CleanTurn) → LeavesCounts may a b did → (y : Position) → did ≡ Moved y → IsCountedPosition b.now.counted y
-within_moved may a b Cleaned counts y is = absurd cc
-within_moved may a b Unlinked counts y is = absurd cc
-within_moved may a b Reclaimed counts y is = absurd cc
-within_moved may a b (Moved z) counts y is = let same : z ≡ y = cc is in subst (IsCountedPosition b.now.counted) same counts.within
-within_moved may a b Over counts y is = absurd cc
+pub place_behind : (p : Pass) (from : Position) (did : CleanTurn) (may : Bool) (next counted : ℕ) → IsCountedPosition counted from → IsTurnWithin may counted did → IsCountedPosition counted (pass_behind p from did may next).at
+place_behind p from Cleaned may next counted is within = is
+place_behind p from Unlinked may next counted is within = is
+place_behind p from Reclaimed may next counted is within = is
+place_behind p from (Moved y) may next counted is within = within
+place_behind p from Over may next counted is within = omega arith
+place_behind p from (Left (Some y)) may next counted is within = within
+place_behind p from (Left None) may next counted is within = omega arith
 
 -- ---- the laws of a turn
 

@@ -1,4 +1,4 @@
-use Rattle.std.proofs.Common.{◌≡◌, ℕ, suc, ◌-◌, Bool, true, false, Option, Some, None, Ok, sym, ◌∙◌, ap, subst, arith}
+use Rattle.std.proofs.Common.{◌≡◌, ℕ, suc, ◌-◌, Bool, true, false, Ok, sym, ◌∙◌, ap, subst, arith}
 use Rattle.std.specs.Prelude.{IsTrue, ⊤}
 use Rattle.ctr_pvs.specs.base_Base.{IsSoundImage}
 use Rattle.ctr_disk.specs.declared.fault.StoreFault.TheVariants.{Fault}
@@ -17,7 +17,9 @@ use Rattle.ctr_clean.specs.declared.older.OlderFacts.{OlderFacts}
 use Rattle.ctr_clean.specs.Choosing.{passes_below}
 use Rattle.ctr_clean.specs.Older.{IsSaid}
 use Rattle.ctr_clean.proofs.Resting.{rests_read}
-use Rattle.ctr_clean.proofs.Passed.{IsOnWayTo, way_starts, kept_on_way, passes_on, cut_here, last_here, none_here}
+use Rattle.ctr_clean.specs.declared.cutting.CutFound.{CutFound}
+use Rattle.ctr_clean.specs.declared.cutting.CutFound.TheVariants.{Behind, Nowhere}
+use Rattle.ctr_clean.proofs.Passed.{IsOnWayTo, way_starts, kept_on_way, passes_on, cut_here, last_here, none_here, none_near}
 use Rattle.ctr_clean.proofs.cutting.cut_along.Given.{Over}
 use Rattle.ctr_clean.proofs.cutting.cut_along.Goals.{In-Ok}
 use Rattle.ctr_clean.proofs.cutting.cut_along.Goals as goal
@@ -53,7 +55,7 @@ returns-in-Err-clause-leaves g c =
     let first = g.O.Origin.first in
     let mid = c.loop-left.store in
     let new = c.look_older.new.store in
-    reads_behind first g.D.Disk (Option Place) tt c.args.store.now mid new c.in-Err.fault c.loop-left.invariant.0 (reads_err first g.D.Disk OlderFacts ⊤ c.in-Err.fault mid new c.in-Err.ensures.leaves)
+    reads_behind first g.D.Disk CutFound tt c.args.store.now mid new c.in-Err.fault c.loop-left.invariant.0 (reads_err first g.D.Disk OlderFacts ⊤ c.in-Err.fault mid new c.in-Err.ensures.leaves)
 
 pub returns-in-Err-clause-refused : goal.returns-in-Err-clause-refused
 returns-in-Err-clause-refused g c = λ e key told sound database leads.
@@ -97,17 +99,17 @@ returns-then-facts-eq0-clause-tells g c = λ e key told sound database leads.
 
 pub returns-then-facts-eq0-clause-leaves : goal.returns-then-facts-eq0-clause-leaves
 returns-then-facts-eq0-clause-leaves g c =
-    answers_ok g.O.Origin.first g.D.Disk c.in-Ok.facts None c.args.store.now c.look_older.new.store (read g (goal.at.returns-then-facts-eq0-clause-leaves g c).In-Ok)
+    answers_ok g.O.Origin.first g.D.Disk c.in-Ok.facts Nowhere c.args.store.now c.look_older.new.store (read g (goal.at.returns-then-facts-eq0-clause-leaves g c).In-Ok)
 
 pub returns-then-passes-clause-tells : goal.returns-then-passes-clause-tells
 returns-then-passes-clause-tells g c = λ e key told sound database leads.
     let k = (goal.at.returns-then-passes-clause-tells g c).In-Ok in
     let is = passing g k told sound c.meta.result.now true (ap (λ (m : TablesKept). m.tables) c.meta.ensures.tables ∙ c.meta.ensures.now told sound c.in-Ok.ensures.leaves.going) (sym c.passes.ensures ∙ c.if-passes.true) in
-    cut_here (passes_below c.args.low c.args.store.now.now.tables) (area_in c.args.store.now.now) c.args.from c.loop-left.at (n g k) c.if-at-eq0.false (way g k told sound) is (λ none. c.if-facts-eq0.false (sym (ap (λ (p : Place). p.page) (said g k told sound).next) ∙ none))
+    cut_here (passes_below c.args.low c.args.store.now.now.tables) (area_in c.args.store.now.now) c.args.from c.loop-left.at (n g k) c.if-at-eq0.false (way g k told sound) e key leads is (λ none. c.if-facts-eq0.false (sym (ap (λ (p : Place). p.page) (said g k told sound).next) ∙ none))
 
 pub returns-then-passes-clause-leaves : goal.returns-then-passes-clause-leaves
 returns-then-passes-clause-leaves g c =
-    answers_ok g.O.Origin.first g.D.Disk c.in-Ok.facts (Some c.loop-left.at) c.args.store.now c.look_older.new.store (read g (goal.at.returns-then-passes-clause-leaves g c).In-Ok)
+    answers_ok g.O.Origin.first g.D.Disk c.in-Ok.facts (Behind c.loop-left.at) c.args.store.now c.look_older.new.store (read g (goal.at.returns-then-passes-clause-leaves g c).In-Ok)
 
 pub loop-left-preserved : goal.loop-left-preserved
 loop-left-preserved g c =
@@ -118,6 +120,11 @@ loop-left-preserved g c =
           (passing g k told sound c.meta.result.now false (ap (λ (m : TablesKept). m.tables) c.meta.ensures.tables ∙ c.meta.ensures.now told sound c.in-Ok.ensures.leaves.going) (sym c.passes.ensures ∙ c.if-passes.false)) c.in-Ok.facts.next (said g k told sound).next,
     )
 
-pub returns-clause-tells : goal.returns-clause-tells
-returns-clause-tells g c = λ e key told sound database leads q first more.
-    (subst (IsOnWayTo (passes_below c.args.low c.args.store.now.now.tables) (area_in c.args.store.now.now) c.args.from c.loop-left.at) c.loop-left-test.false (c.loop-left.invariant.1 told sound)).on q first
+pub returns-then-at-eq0-2-clause-tells : goal.returns-then-at-eq0-2-clause-tells
+returns-then-at-eq0-2-clause-tells g c = λ e key told sound database leads.
+    none_here (passes_below c.args.low c.args.store.now.now.tables) (area_in c.args.store.now.now) c.args.from c.loop-left.at c.loop-left.left c.if-at-eq0-2.true (c.loop-left.invariant.1 told sound)
+
+pub returns-else-at-eq0-2-clause-tells : goal.returns-else-at-eq0-2-clause-tells
+returns-else-at-eq0-2-clause-tells g c = λ e key told sound database leads.
+    none_near (passes_below c.args.low c.args.store.now.now.tables) (area_in c.args.store.now.now) c.args.from c.loop-left.at c.if-at-eq0-2.false
+    (subst (IsOnWayTo (passes_below c.args.low c.args.store.now.now.tables) (area_in c.args.store.now.now) c.args.from c.loop-left.at) c.loop-left-test.false (c.loop-left.invariant.1 told sound))

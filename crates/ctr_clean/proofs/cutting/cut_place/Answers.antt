@@ -1,4 +1,4 @@
-use Rattle.std.proofs.Common.{◌≡◌, Bool, true, Option, Some, None, Result, Ok, Err, subst}
+use Rattle.std.proofs.Common.{◌≡◌, Bool, true, Result, Ok, Err, subst}
 use Rattle.std.specs.Prelude.{IfOk, IfErr}
 use Rattle.ctr_disk.specs.declared.fault.StoreFault.{StoreFault}
 use Rattle.ctr_disk.specs.declared.fault.StoreFault.TheVariants.{Fault}
@@ -11,22 +11,22 @@ use Rattle.ctr_record_effects.specs.Standing.{IsDatabaseState}
 use Rattle.ctr_dead.proofs.trim_Reading.{reads_fault}
 use Rattle.ctr_clean.specs.Choosing.{passes_below}
 use Rattle.ctr_clean.specs.Steps.{Locks}
+use Rattle.ctr_clean.specs.declared.cutting.CutFound.{CutFound}
+use Rattle.ctr_clean.specs.declared.cutting.CutFound.TheVariants.{Behind, Nowhere, Further}
 use Rattle.ctr_clean.specs.Cutting.{IsCutAlong, GoesBehind, CutsBehind}
 use Rattle.ctr_clean.proofs.Resting.{reads_on}
-use Rattle.ctr_clean.proofs.Passed.{first_of_all}
 use Rattle.ctr_clean.proofs.cutting.cut_place.Goals as goal
 
 -- where the chain off a slot may be cut, the slot's may be, by what is known of the slot
-cut_by : (low : _) (locks : Locks) (e : _) (at : Place) (s : State) → IsAmong at (slot_places (area_in s) e) → GoesBehind low locks e at s true → (result : Result (Option Place) StoreFault)
+cut_by : (low : _) (locks : Locks) (e : _) (at : Place) (s : State) → IsAmong at (slot_places (area_in s) e) → GoesBehind low locks e at s true → (result : Result CutFound StoreFault)
     → IfOk result (IsCutAlong (passes_below low s.tables) (area_in s) ((area_in s).slot at).pointer) → IfOk result (CutsBehind low locks e at s)
-cut_by low locks e at s among goes (Ok (Some q)) found =
-    let first = first_of_all (passes_below low s.tables) (area_in s) ((area_in s).slot at).pointer q found.0 in
-    (goes.1, (record { used = (among, goes.0); head = goes.2; previous = goes.3; first = first; some = found.1 }, found.0))
-cut_by low locks e at s among goes (Ok None) none = λ unlocked q owed. none q owed.1 owed.0.some
+cut_by low locks e at s among goes (Ok (Behind q)) found = (goes.1, record { used = (among, goes.0); head = goes.2; previous = goes.3; first = found.0; some = found.1 })
+cut_by low locks e at s among goes (Ok Nowhere) none = λ unlocked q owed. none q owed.first owed.some
+cut_by low locks e at s among goes (Ok Further) unseen = (goes, unseen)
 cut_by low locks e at s among goes (Err f) ends = tt
 
 pub returns-in-Err-clause-leaves : goal.returns-in-Err-clause-leaves
-returns-in-Err-clause-leaves g c = reads_fault g.O.Origin.first g.D.Disk c.args.store.now c.behind_slot.new.store Bool (Option Place) c.in-Err.fault c.behind_slot.result c.in-Err.is c.behind_slot.ensures.leaves
+returns-in-Err-clause-leaves g c = reads_fault g.O.Origin.first g.D.Disk c.args.store.now c.behind_slot.new.store Bool CutFound c.in-Err.fault c.behind_slot.result c.in-Err.is c.behind_slot.ensures.leaves
 
 pub returns-in-Ok-false-clause-chooses : goal.returns-in-Ok-false-clause-chooses
 returns-in-Ok-false-clause-chooses g c = λ told sound database among.

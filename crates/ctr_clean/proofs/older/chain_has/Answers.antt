@@ -1,5 +1,5 @@
-use Rattle.std.proofs.Common.{◌≡◌, ℕ, suc, ◌-◌, Bool, Ok, refl, ◌∙◌, ap, subst, arith}
-use Rattle.std.specs.Prelude.{◌==◌, ⊤}
+use Rattle.std.proofs.Common.{◌≡◌, ℕ, suc, ◌-◌, Ok, refl, ◌∙◌, ap, subst, arith}
+use Rattle.std.specs.Prelude.{⊤}
 use Rattle.ctr_disk.specs.declared.fault.StoreFault.TheVariants.{Fault}
 use Rattle.ctr_pvs.specs.redo_States.{State}
 use Rattle.ctr_area.specs.Chains.{older_places}
@@ -9,6 +9,7 @@ use Rattle.ctr_record_effects.specs.Standing.{IsDatabaseState}
 use Rattle.ctr_pvs.proofs.walk_Damages.{reads_err, reads_behind}
 use Rattle.ctr_pvs.proofs.walk_Joins.{pages_join, answers_ok}
 use Rattle.ctr_clean.specs.declared.older.OlderFacts.{OlderFacts}
+use Rattle.ctr_clean.specs.declared.older.ChainFound.{ChainFound}
 use Rattle.ctr_clean.proofs.Resting.{rests_read}
 use Rattle.ctr_clean.proofs.Along.{IsOnWay, at_start, kept_here, found_here, goes_on, ends_here, is_far}
 use Rattle.ctr_clean.proofs.older.chain_has.Goals as goal
@@ -48,7 +49,7 @@ returns-in-Err-clause-leaves g c =
     let first = g.O.Origin.first in
     let mid = c.loop-left.store in
     let new = c.look_older.new.store in
-    reads_behind first g.D.Disk Bool tt c.args.store.now mid new c.in-Err.fault c.loop-left.invariant.0 (reads_err first g.D.Disk OlderFacts ⊤ c.in-Err.fault mid new c.in-Err.ensures.leaves)
+    reads_behind first g.D.Disk ChainFound tt c.args.store.now mid new c.in-Err.fault c.loop-left.invariant.0 (reads_err first g.D.Disk OlderFacts ⊤ c.in-Err.fault mid new c.in-Err.ensures.leaves)
 
 pub returns-in-Err-clause-refused : goal.returns-in-Err-clause-refused
 returns-in-Err-clause-refused g c = λ e key told sound database leads.
@@ -76,9 +77,12 @@ loop-left-preserved g c =
           (subst (λ (u : State). ((area_in u).older at).pointer ≡ facts.next) (c.loop-left.invariant.0.logs told sound).now (c.in-Ok.ensures.tells told sound).next),
     )
 
-pub returns-clause-tells : goal.returns-clause-tells
-returns-clause-tells g c = λ e key told sound database leads.
+pub returns-then-at-eq0-2-clause-tells : goal.returns-then-at-eq0-2-clause-tells
+returns-then-at-eq0-2-clause-tells g c = λ e key told sound database leads. ends_here (area_in c.args.store.now.now) c.args.from c.loop-left.at c.args.sought c.loop-left.left c.if-at-eq0-2.true (c.loop-left.invariant.1 told sound)
+
+pub returns-else-at-eq0-2-clause-tells : goal.returns-else-at-eq0-2-clause-tells
+returns-else-at-eq0-2-clause-tells g c = λ e key told sound database leads.
     let area = area_in c.args.store.now.now in
     let at = c.loop-left.at in
-    is_far area c.args.from at c.args.sought (at.page == 0) refl
+    is_far area c.args.from at c.args.sought c.if-at-eq0-2.false
     (subst (IsOnWay area c.args.from at c.args.sought) c.loop-left-test.false (c.loop-left.invariant.1 told sound))

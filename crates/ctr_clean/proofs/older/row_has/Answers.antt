@@ -1,4 +1,4 @@
-use Rattle.std.proofs.Common.{◌≡◌, ℤ, Bool, true, false, Option, Some, Result, Ok, Err, sym, ◌∙◌, subst}
+use Rattle.std.proofs.Common.{◌≡◌, ℤ, Option, Some, Result, Ok, Err, sym, ◌∙◌, subst}
 use Rattle.std.specs.Prelude.{IsTrue, IfOk, IfErr}
 use Rattle.std.specs.Int.{w64}
 use Rattle.std.proofs.lemmas.Int.{to_z-of_z}
@@ -16,6 +16,8 @@ use Rattle.ctr_pvs.specs.walk_Damage.{damage_told, EndsTold}
 use Rattle.ctr_dead.specs.heap_Finding.{EndsBucket, FindsKey}
 use Rattle.ctr_dead.specs.heap_SlotSought.TheVariants.{Key}
 use Rattle.ctr_dead.proofs.trim_Reading.{reads_fault, by_disk}
+use Rattle.ctr_clean.specs.declared.older.ChainFound.{ChainFound}
+use Rattle.ctr_clean.specs.declared.older.ChainFound.TheVariants.{Found, Missing, Beyond}
 use Rattle.ctr_clean.specs.Older.{HasAlong, IsHadBy}
 use Rattle.ctr_clean.proofs.Resting.{reads_on}
 use Rattle.ctr_area.specs.Reading.{columns_on}
@@ -26,15 +28,16 @@ use Rattle.ctr_clean.proofs.older.row_has.Goals as goal
 
 -- the row was found, and what its chain has
 had : (s : State) (e : _) (key : ℤ) (at from q : Place) → IsDatabaseState s → FindsKey (area_in s) e key (Some at) → ((area_in s).slot at).pointer ≡ from
-    → (result : Result Bool StoreFault) → IfOk result (HasAlong (area_in s) from q) → IfOk result (IsHadBy e key q s)
-had s e key at from q database found is (Ok true) has = (at, found.0, found.1, subst (λ p. HasAlong (area_in s) p q true) (sym is) has)
-had s e key at from q database found is (Ok false) has = λ b used key_is in_.
+    → (result : Result ChainFound StoreFault) → IfOk result (HasAlong (area_in s) from q) → IfOk result (IsHadBy e key q s)
+had s e key at from q database found is (Ok Found) has = (at, found.0, found.1, subst (λ p. HasAlong (area_in s) p q Found) (sym is) has)
+had s e key at from q database found is (Ok Beyond) has = (at, found.0, found.1, subst (λ p. HasAlong (area_in s) p q Beyond) (sym is) has)
+had s e key at from q database found is (Ok Missing) has = λ b used key_is in_.
     has (subst (λ p. IsAmong q (places_along older_bound (area_in s).older p)) is
     (subst (λ (p : Place). IsAmong q (places_along older_bound (area_in s).older ((area_in s).slot p).pointer)) (database.sound.keys.once e b at used found.0 (key_is ∙ sym found.1)) in_))
 had s e key at from q database found is (Err f) has = tt
 
 pub returns-in-Err-clause-leaves : goal.returns-in-Err-clause-leaves
-returns-in-Err-clause-leaves g c = reads_fault g.O.Origin.first g.D.Disk c.args.store.now c.find.new.store (Option Place) Bool c.in-Err.fault c.find.result c.in-Err.is c.find.ensures.leaves
+returns-in-Err-clause-leaves g c = reads_fault g.O.Origin.first g.D.Disk c.args.store.now c.find.new.store (Option Place) ChainFound c.in-Err.fault c.find.result c.in-Err.is c.find.ensures.leaves
 
 pub returns-in-Err-clause-refused : goal.returns-in-Err-clause-refused
 returns-in-Err-clause-refused g c = λ told sound database.
@@ -54,7 +57,7 @@ returns-in-Ok-None-clause-tells g c = λ told sound database at used key_is in_.
 pub returns-in-Err-behind_at-clause-leaves : goal.returns-in-Err-behind_at-clause-leaves
 returns-in-Err-behind_at-clause-leaves g c =
     reads_on g.O.Origin.first g.D.Disk c.in-Ok-Some.field-0 c.args.store.now c.find.new.store c.behind_at.new.store (Err c.in-Err-behind_at.fault) c.in-Ok-Some.ensures.leaves
-    (reads_fault g.O.Origin.first g.D.Disk c.find.new.store c.behind_at.new.store Place Bool c.in-Err-behind_at.fault c.behind_at.result c.in-Err-behind_at.is c.behind_at.ensures.leaves)
+    (reads_fault g.O.Origin.first g.D.Disk c.find.new.store c.behind_at.new.store Place ChainFound c.in-Err-behind_at.fault c.behind_at.result c.in-Err-behind_at.is c.behind_at.ensures.leaves)
 
 -- the row was found, and its chain was gone along
 module _ (g : Over) (c : After-chain_has g) (told : IsTrue g.D.Disk.tells) (sound : IsSoundImage g.O.Origin.first) (database : IsDatabaseState c.args.store.now.now) where

@@ -54,4 +54,4 @@ pub returns-in-Ok-Some-clause-cleans : goal.returns-in-Ok-Some-clause-cleans
 returns-in-Ok-Some-clause-cleans g c = λ h told sound database dead.
     let s = c.args.store.now.now in
     let e = c.args.entry in
-    ok_told (DidAt h (Entry e) (HasNoRowsToGo e s) s c.unlink_rows.new.store.now) c.unlink_rows.result c.unlink_rows.result (Some c.in-Ok-Some.logged) refl (c.in-Ok-Some.is ∙ ap Ok c.in-Ok-Some.field-0-is) (c.unlink_rows.ensures.cleans h told sound database dead)
+    ok_told (DidAt h (Entry e) (HasNoRowsToGo e s) s c.unlink_rows.new.store.now) c.unlink_rows.result c.unlink_rows.result (Some c.in-Ok-Some.dealt) refl (c.in-Ok-Some.is ∙ ap Ok c.in-Ok-Some.field-0-is) (c.unlink_rows.ensures.cleans h told sound database dead)

@@ -40,8 +40,8 @@ returns-in-Ok-Some-clause-tries g c =
     let new = c.unlink_rows_at.new.store in
     let r = c.unlink_rows_at.result in
     let does = c.unlink_rows_at.ensures in
-    c.a_part_goes_on.ensures.behind true first c.args.store.now cur new (Ok (Some c.in-Ok-Some.logged)) c.loop-bucket.invariant.tried
-    (part_told first g.D.Disk true cur new (done_unlinked r) c.unlinked.result (Ok (Some c.in-Ok-Some.logged)) c.unlinked.ensures (c.in-Ok-Some.is ∙ ap Ok c.in-Ok-Some.field-0-is) (c.a_step_is_a_part.ensures.unlinked first cur new r does.turns does.numbers does.left does.counted))
+    c.a_part_goes_on.ensures.behind true first c.args.store.now cur new (Ok (Some c.in-Ok-Some.dealt)) c.loop-bucket.invariant.tried
+    (part_told first g.D.Disk true cur new (done_unlinked r) c.unlinked.result (Ok (Some c.in-Ok-Some.dealt)) c.unlinked.ensures (c.in-Ok-Some.is ∙ ap Ok c.in-Ok-Some.field-0-is) (c.a_step_is_a_part.ensures.unlinked first cur new r does.turns does.numbers does.left does.counted))
 
 pub returns-in-Ok-Some-clause-cleans : goal.returns-in-Ok-Some-clause-cleans
 returns-in-Ok-Some-clause-cleans g c = λ h told sound database dead.
@@ -52,7 +52,7 @@ returns-in-Ok-Some-clause-cleans g c = λ h told sound database dead.
     let b = c.loop-bucket.bucket in
     let r = c.unlink_rows_at.result in
     let same = ((c.a_part_goes_on.ensures.read true first c.args.store.now c.loop-bucket.store c.loop-bucket.invariant.tried).logs told sound).now in
-    ok_told (DidAt h (Entry e) ((p : ℕ) → OwedByUnlink s.tables (area_in s) p e b → ⊥) s new) (done_unlinked r) c.unlinked.result (Some c.in-Ok-Some.logged) c.unlinked.ensures (c.in-Ok-Some.is ∙ ap Ok c.in-Ok-Some.field-0-is)
+    ok_told (DidAt h (Entry e) ((p : ℕ) → OwedByUnlink s.tables (area_in s) p e b → ⊥) s new) (done_unlinked r) c.unlinked.result (Some c.in-Ok-Some.dealt) c.unlinked.ensures (c.in-Ok-Some.is ∙ ap Ok c.in-Ok-Some.field-0-is)
     (unlinks_rows h e b s new r dead (subst (λ (u : State). IsDatabaseState u → ((area_in u).title e).state ≡ 2 → IfOk r (UnlinksRowsAt e b u new)) same (c.unlink_rows_at.ensures.cleans told sound) database dead))
 
 pub loop-bucket-preserved : goal.loop-bucket-preserved

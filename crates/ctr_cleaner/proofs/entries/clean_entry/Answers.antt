@@ -68,8 +68,8 @@ returns-in-Ok-Some-clause-tries g c =
     let mid = c.make_dead_at.new.store in
     let r = c.make_dead_at.result in
     let is = c.make_dead_at.ensures in
-    c.a_part_goes_on.ensures.may c.args.may.unlink first old mid (Ok (Some c.in-Ok-Some.logged))
-    (part_told first g.D.Disk _ old mid (done_step r) c.stepped.result (Ok (Some c.in-Ok-Some.logged)) c.stepped.ensures (c.in-Ok-Some.is ∙ ap Ok c.in-Ok-Some.field-0-is) (c.a_step_is_a_part.ensures.step first old mid r is.turns is.numbers is.left is.counted))
+    c.a_part_goes_on.ensures.may c.args.may.unlink first old mid (Ok (Some c.in-Ok-Some.dealt))
+    (part_told first g.D.Disk _ old mid (done_step r) c.stepped.result (Ok (Some c.in-Ok-Some.dealt)) c.stepped.ensures (c.in-Ok-Some.is ∙ ap Ok c.in-Ok-Some.field-0-is) (c.a_step_is_a_part.ensures.step first old mid r is.turns is.numbers is.left is.counted))
 
 pub returns-in-Ok-Some-clause-cleans : goal.returns-in-Ok-Some-clause-cleans
 returns-in-Ok-Some-clause-cleans g c = λ locks spared told sound database.
@@ -78,4 +78,4 @@ returns-in-Ok-Some-clause-cleans g c = λ locks spared told sound database.
     let e = c.args.entry in
     let low = c.args.low in
     let r = c.make_dead_at.result in
-    ok_told (DidAt (heeding low locks spared c.args.may) (Entry e) (OwesDying low e s → ⊥) s mid) (done_step r) c.stepped.result (Some c.in-Ok-Some.logged) c.stepped.ensures (c.in-Ok-Some.is ∙ ap Ok c.in-Ok-Some.field-0-is) (dies low locks spared e c.args.may s mid r (c.make_dead_at.ensures.cleans locks told sound database))
+    ok_told (DidAt (heeding low locks spared c.args.may) (Entry e) (OwesDying low e s → ⊥) s mid) (done_step r) c.stepped.result (Some c.in-Ok-Some.dealt) c.stepped.ensures (c.in-Ok-Some.is ∙ ap Ok c.in-Ok-Some.field-0-is) (dies low locks spared e c.args.may s mid r (c.make_dead_at.ensures.cleans locks told sound database))

@@ -34,7 +34,7 @@ returns-in-Ok-false-clause-cleans g c = λ spared may told sound database its li
     let q = c.args.place in
     let locks = c.args.locks.now in
     let said = subst (OpenOlderSaid locks e q s) c.in-Ok-false.field-0-test (c.in-Ok-false.ensures.tells told sound (kept_taken s e q its)) in
-    ((c.in-Ok-false.ensures.leaves.logs told sound).now, λ lives free loose. said loose.0.used free)
+    ((c.in-Ok-false.ensures.leaves.logs told sound).now, λ lives free loose. said loose.used free)
 
 pub returns-in-Ok-true-clause-tries : goal.returns-in-Ok-true-clause-tries
 returns-in-Ok-true-clause-tries g c =
@@ -58,7 +58,7 @@ returns-in-Ok-true-clause-cleans g c = λ spared may told sound database its liv
     let said = subst (OpenOlderSaid locks e q s) c.in-Ok-true.field-0-test (c.in-Ok-true.ensures.tells told sound (kept_taken s e q its)) in
     let did : IfOk r (FreesAt c.args.low locks e q s new) = subst (λ (u : State). IsDatabaseState u → IsAmong q (older_places (area_in u) e) → is_live ((area_in u).title e) ≡ true → IfOk r (FreesAt c.args.low locks e q u new)) same
     (c.free_older_at.ensures.cleans told sound) database (older_place (area_in s) e q its.1) live in
-    subst (λ a. IfOk a (DidAt (heeding c.args.low locks spared may) (Kept e q) (HasNothingAt (IsFreeRow locks s) c.args.low (Kept e q) s) s new)) (sym c.stepped.ensures) (frees_older c.args.low locks spared e may q s new said r did)
+    subst (λ a. IfOk a (DidAt (heeding c.args.low locks spared may) (Kept e q) (HasNothingAt (IsFreeRow locks s) c.args.low (Kept e q) s) s new)) (sym c.stepped.ensures) (frees_older c.args.low locks spared e may q s new live said r did)
 
 pub returns-in-Ok-true-clause-refused : goal.returns-in-Ok-true-clause-refused
 returns-in-Ok-true-clause-refused g c = λ told sound database its live.

@@ -56,7 +56,7 @@ returns-in-Ok-None-clause-cleans g c = λ b spared may told sound database slot 
     (λ db unlocked lives. c.cut_at.ensures.cleans told sound db unlocked.here lives) database slot live in
     subst (λ r. IfOk r (DidAt h x (HasNothingInSlot low e at s) s new)) (sym c.stepped-in-Ok-None.ensures)
     (done_so h x (HasNoCut low locks e at s) (HasNothingInSlot low e at s) s new (λ uncut. nothing_live low locks e at s slot.unlocked.0 one.1 uncut) (done_step c.cut_at.result)
-    (cuts_slot low locks spared may e b at s new slot.unlocked c.cut_at.result two))
+    (cuts_slot low locks spared may e b at s new slot.unlocked live c.cut_at.result two))
 
 pub returns-in-Ok-None-clause-refused : goal.returns-in-Ok-None-clause-refused
 returns-in-Ok-None-clause-refused g c = λ told sound database slot live.
@@ -82,7 +82,7 @@ returns-in-Ok-Some-clause-tries g c =
     let mid = c.clean_slot.new.store in
     let r = c.clean_slot.result in
     let is = c.clean_slot.ensures in
-    part_told first g.D.Disk _ old mid (done_step r) c.stepped.result (Ok (Some c.in-Ok-Some.logged)) c.stepped.ensures (c.in-Ok-Some.is ∙ ap Ok c.in-Ok-Some.field-0-is) (c.a_step_is_a_part.ensures.step first old mid r is.turns is.numbers is.left is.counted)
+    part_told first g.D.Disk _ old mid (done_step r) c.stepped.result (Ok (Some c.in-Ok-Some.dealt)) c.stepped.ensures (c.in-Ok-Some.is ∙ ap Ok c.in-Ok-Some.field-0-is) (c.a_step_is_a_part.ensures.step first old mid r is.turns is.numbers is.left is.counted)
 
 pub returns-in-Ok-Some-clause-cleans : goal.returns-in-Ok-Some-clause-cleans
 returns-in-Ok-Some-clause-cleans g c = λ b spared may told sound database slot live.
@@ -94,5 +94,5 @@ returns-in-Ok-Some-clause-cleans g c = λ b spared may told sound database slot 
     let at = c.args.place in
     let h = heeding low locks spared may in
     let x = Slot e b at in
-    ok_told (DidAt h x (HasNoRevert locks e at s × HasNoTrim low locks e at s) s mid) (done_step c.clean_slot.result) c.stepped.result (Some c.in-Ok-Some.logged) c.stepped.ensures (c.in-Ok-Some.is ∙ ap Ok c.in-Ok-Some.field-0-is)
+    ok_told (DidAt h x (HasNoRevert locks e at s × HasNoTrim low locks e at s) s mid) (done_step c.clean_slot.result) c.stepped.result (Some c.in-Ok-Some.dealt) c.stepped.ensures (c.in-Ok-Some.is ∙ ap Ok c.in-Ok-Some.field-0-is)
     (cleans_slot low locks spared may e b at s mid slot.unlocked c.clean_slot.result (c.clean_slot.ensures.cleans told sound database slot.here live))

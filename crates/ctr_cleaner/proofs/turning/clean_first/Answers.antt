@@ -76,8 +76,8 @@ returns-in-Ok-Some-clause-tries g c =
     let mid = c.reclaim.new.store in
     let r = c.reclaim.result in
     let is = c.reclaim.ensures in
-    c.a_part_goes_on.ensures.may c.args.may.unlink first old mid (Ok (Some c.in-Ok-Some.logged))
-    (part_told first g.D.Disk _ old mid (done_reclaim r) c.reclaimed.result (Ok (Some c.in-Ok-Some.logged)) c.reclaimed.ensures (c.in-Ok-Some.is ∙ ap Ok c.in-Ok-Some.field-0-is) (c.a_step_is_a_part.ensures.reclaimed first old mid r is.turns is.numbers is.left is.counted is.takes))
+    c.a_part_goes_on.ensures.may c.args.may.unlink first old mid (Ok (Some c.in-Ok-Some.dealt))
+    (part_told first g.D.Disk _ old mid (done_reclaim r) c.reclaimed.result (Ok (Some c.in-Ok-Some.dealt)) c.reclaimed.ensures (c.in-Ok-Some.is ∙ ap Ok c.in-Ok-Some.field-0-is) (c.a_step_is_a_part.ensures.reclaimed first old mid r is.turns is.numbers is.left is.counted is.takes))
 
 pub returns-in-Ok-Some-clause-cleans : goal.returns-in-Ok-Some-clause-cleans
 returns-in-Ok-Some-clause-cleans g c = λ told sound database its.
@@ -89,4 +89,4 @@ returns-in-Ok-Some-clause-cleans g c = λ told sound database its.
     let lets = c.args.may in
     let x = c.args.at in
     let r = c.reclaim.result in
-    ok_told (DidAt (heeding low locks spared lets) x (HasNoFree spared s.tables) s mid) (done_reclaim r) c.reclaimed.result (Some c.in-Ok-Some.logged) c.reclaimed.ensures (c.in-Ok-Some.is ∙ ap Ok c.in-Ok-Some.field-0-is) (reclaims low locks spared lets x s mid r (c.reclaim.ensures.cleans low locks told sound database))
+    ok_told (DidAt (heeding low locks spared lets) x (HasNoFree spared s.tables) s mid) (done_reclaim r) c.reclaimed.result (Some c.in-Ok-Some.dealt) c.reclaimed.ensures (c.in-Ok-Some.is ∙ ap Ok c.in-Ok-Some.field-0-is) (reclaims low locks spared lets x s mid r (c.reclaim.ensures.cleans low locks told sound database))

@@ -15,7 +15,7 @@ use Rattle.ctr_pass.specs.Sparing.{with_cleaner}
 use Rattle.ctr_world.specs.Cleaning.{noted_pass}
 use Rattle.ctr_world.specs.Held.{running}
 use Rattle.ctr_world.specs.World.{IsWorldReady, KeepsPassIn, Shows}
-use Rattle.ctr_world.proofs.Cleaned.{Laws, RestLaws, cleans_or_passes, heeds_nobody, pass_cleaned, place_behind, ready_cleaned, shows_cleaned, still_going, turned, within_moved}
+use Rattle.ctr_world.proofs.Cleaned.{Laws, RestLaws, cleans_or_passes, heeds_nobody, pass_cleaned, place_behind, ready_cleaned, shows_cleaned, still_going, turned}
 use Rattle.ctr_world.proofs.engine.Engine.clean_next.Goals as goal
 
 pub returns-in-Ok-clause-ready : goal.returns-in-Ok-clause-ready
@@ -35,7 +35,7 @@ returns-in-Ok-clause-ready g c =
     (subst (λ (i : Bool). StandOver (with_cleaner i w.sessions.txns) b) (sym c.keeps_room.ensures) (room.stands w.sessions.txns a b may went.did ready.stand e.counts c.may_empty-may.ensures.unlink))
     (still_going first g.D.Disk a b went e.turns) e.counts.counted (disk_turn first g.D.Disk a b _ e.turns).later
     (room.seats w.sessions a.now.counted item) (room.order g.B.Opening.start (g.D.Disk.moment_of b.disk) w.sessions item)
-    (subst (λ (p : Pass). IsCountedPosition b.now.counted p.at) (sym (c.behind-self.ensures ∙ ap (pass_behind c.args.noted went.from went.did may.unlink) c.next-in-Ok.ensures)) (place_behind c.args.noted went.from went.did may.unlink b.next b.now.counted e.from.1 (within_moved may a b went.did e.counts))))
+    (subst (λ (p : Pass). IsCountedPosition b.now.counted p.at) (sym (c.behind-self.ensures ∙ ap (pass_behind c.args.noted went.from went.did may.unlink) c.next-in-Ok.ensures)) (place_behind c.args.noted went.from went.did may.unlink b.next b.now.counted e.from.1 e.counts.within)))
 
 pub returns-in-Ok-clause-kept : goal.returns-in-Ok-clause-kept
 returns-in-Ok-clause-kept g c = λ s tells sound shows keeps.
