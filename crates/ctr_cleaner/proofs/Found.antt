@@ -41,7 +41,7 @@ use Rattle.ctr_meta.specs.Kept.{TablesKept}
 use Rattle.ctr_cleaner.specs.declared.done.MayEmpty.{MayEmpty}
 use Rattle.ctr_cleaner.specs.declared.done.CleanTurn.{CleanTurn}
 use Rattle.ctr_cleaner.specs.declared.done.CleanTurn.TheVariants as turn
-use Rattle.ctr_cleaner.specs.declared.done.Dealt.TheVariants.{Logged as Logs, Unseen}
+use Rattle.ctr_cleaner.specs.declared.done.Dealt.TheVariants.{Logged as Logs}
 use Rattle.ctr_cleaner.specs.declared.done.Logged.{Logged}
 use Rattle.ctr_cleaner.specs.declared.done.Logged.TheVariants.{Cleaned, Unlinked, Reclaimed}
 use Rattle.ctr_cleaner.specs.Finding.{IsFreeRow, HasNothingAt, HasNothingInSlot}
