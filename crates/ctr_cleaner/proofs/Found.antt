@@ -41,7 +41,7 @@ use Rattle.ctr_meta.specs.Kept.{TablesKept}
 use Rattle.ctr_cleaner.specs.declared.done.MayEmpty.{MayEmpty}
 use Rattle.ctr_cleaner.specs.declared.done.CleanTurn.{CleanTurn}
 use Rattle.ctr_cleaner.specs.declared.done.CleanTurn.TheVariants as turn
-use Rattle.ctr_cleaner.specs.declared.done.Dealt.TheVariants.{Logged as Logs, Unseen}
+use Rattle.ctr_cleaner.specs.declared.done.Dealt.TheVariants.{Logged as Logs}
 use Rattle.ctr_cleaner.specs.declared.done.Logged.{Logged}
 use Rattle.ctr_cleaner.specs.declared.done.Logged.TheVariants.{Cleaned, Unlinked, Reclaimed}
 use Rattle.ctr_cleaner.specs.Finding.{IsFreeRow, HasNothingAt, HasNothingInSlot}
@@ -77,8 +77,7 @@ unlinked_err P (Err e) is = is
 
 -- what was found may be said in other words
 pub did_so : (h : Heeded) (x : Position) (F G : Type 0) (s t : State) → (F → G) → (d : Done) → DidAt h x F s t d → DidAt h x G s t d
-did_so h x F G s t so (Some (Logs logged)) did = did
-did_so h x F G s t so (Some Unseen) did = did
+did_so h x F G s t so (Some dealt) did = did
 did_so h x F G s t so None did = (did.0, so did.1)
 
 pub done_so : (h : Heeded) (x : Position) (F G : Type 0) (s t : State) → (F → G) → (r : Result Done StoreFault) → IfOk r (DidAt h x F s t) → IfOk r (DidAt h x G s t)

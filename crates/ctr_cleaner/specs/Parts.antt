@@ -70,12 +70,16 @@ turn_logged Cleaned = turn.Cleaned
 turn_logged Unlinked = turn.Unlinked
 turn_logged Reclaimed = turn.Reclaimed
 
--- What a part did at a position: a record was logged; or nothing, and this holds; or it isn't seen
--- whether there is anything to do.
+-- What a part came to at a position: a record was logged; or it isn't seen whether there is anything
+-- to do.
+abbrev pub DealtAt : Heeded → Position → State → State → Dealt → Type 0
+DealtAt h x s t (Logs logged) = CleansFreely h x (turn_logged logged) s t
+DealtAt h x s t Unseen = (t ≡ s) × IsUnseenAt h.locks h.low x s
+
+-- What a part did at a position: it came to that; or nothing, and this holds.
 abbrev pub DidAt : Heeded → Position → Type 0 → State → State → Done → Type 0
 DidAt h x Found s t None = (t ≡ s) × Found
-DidAt h x Found s t (Some (Logs logged)) = CleansFreely h x (turn_logged logged) s t
-DidAt h x Found s t (Some Unseen) = (t ≡ s) × IsUnseenAt h.locks h.low x s
+DidAt h x Found s t (Some dealt) = DealtAt h x s t dealt
 
 -- What holds where a whole turn finds nothing to do: no page waits to be free again, and there is
 -- nothing at the position, where everything may be done in a table that is dead.
