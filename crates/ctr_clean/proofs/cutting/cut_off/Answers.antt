@@ -11,13 +11,14 @@ use Rattle.ctr_record_effects.specs.Standing.{IsDatabaseState}
 use Rattle.ctr_dead.proofs.trim_Reading.{reads_fault}
 use Rattle.ctr_clean.specs.Choosing.{passes_below}
 use Rattle.ctr_clean.specs.Cutting.{IsCutAlong}
+use Rattle.ctr_clean.specs.declared.cutting.CutFound.{CutFound}
 use Rattle.ctr_clean.proofs.Resting.{reads_on}
 use Rattle.ctr_clean.proofs.cutting.cut_off.Given.{Over}
 use Rattle.ctr_clean.proofs.cutting.cut_off.Goals.{After-cut_along}
 use Rattle.ctr_clean.proofs.cutting.cut_off.Goals as goal
 
 pub returns-in-Err-clause-leaves : goal.returns-in-Err-clause-leaves
-returns-in-Err-clause-leaves g c = reads_fault g.O.Origin.first g.D.Disk c.args.store.now c.behind_at.new.store Place (Option Place) c.in-Err.fault c.behind_at.result c.in-Err.is c.behind_at.ensures.leaves
+returns-in-Err-clause-leaves g c = reads_fault g.O.Origin.first g.D.Disk c.args.store.now c.behind_at.new.store Place CutFound c.in-Err.fault c.behind_at.result c.in-Err.is c.behind_at.ensures.leaves
 
 module _ (g : Over) (c : After-cut_along g) (e : ℕ) (told : IsTrue g.D.Disk.tells) (sound : IsSoundImage g.O.Origin.first) (database : IsDatabaseState c.args.store.now.now) (used : IsUsedSlot (area_in c.args.store.now.now) e c.args.place) where
   abbrev s : State

@@ -8,6 +8,7 @@ use Rattle.ctr_area.specs.Sound.{IsAmong}
 use Rattle.ctr_record_effects.specs.States.{area_in}
 use Rattle.ctr_record_effects.specs.Standing.{IsDatabaseState}
 use Rattle.ctr_pvs.proofs.walk_Joins.{answers_ok}
+use Rattle.ctr_pvs.proofs.walk_Damages.{reads_err}
 use Rattle.ctr_dead.proofs.trim_Reading.{reads_fault}
 use Rattle.ctr_clean.specs.Steps.{Locks}
 use Rattle.ctr_clean.specs.declared.older.OpenKey.{OpenKey}
@@ -42,7 +43,8 @@ returns-in-Ok-Waits-clause-chooses g c = λ told sound database among.
 
 pub returns-in-Err-row_has-clause-leaves : goal.returns-in-Err-row_has-clause-leaves
 returns-in-Err-row_has-clause-leaves g c =
-    reads_on g.O.Origin.first g.D.Disk c.in-Ok-Open.field-0 c.args.store.now c.open_at.new.store c.row_has.new.store (Err c.in-Err-row_has.fault) c.in-Ok-Open.ensures.leaves c.in-Err-row_has.ensures.leaves
+    reads_err g.O.Origin.first g.D.Disk ChainFound Looseness c.in-Err-row_has.fault c.args.store.now c.row_has.new.store
+    (reads_on g.O.Origin.first g.D.Disk c.in-Ok-Open.field-0 c.args.store.now c.open_at.new.store c.row_has.new.store (Err c.in-Err-row_has.fault) c.in-Ok-Open.ensures.leaves c.in-Err-row_has.ensures.leaves)
 
 pub returns-in-Ok-clause-chooses : goal.returns-in-Ok-clause-chooses
 returns-in-Ok-clause-chooses g c = λ told sound database among.
