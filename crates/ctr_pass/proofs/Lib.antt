@@ -15,3 +15,4 @@ pub use Rattle.ctr_exec.proofs.Shown as exec_Shown
 pub use Rattle.ctr_exec.proofs.ctr_session_world.Alike as session_world_Alike
 pub use Rattle.ctr_exec.proofs.ctr_session_world.Disks as session_world_Disks
 pub use Rattle.ctr_exec.proofs.ctr_session_world.Resting as session_world_Resting
+pub use Rattle.ctr_walk.proofs.Joins as walk_Joins

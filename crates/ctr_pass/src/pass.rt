@@ -104,6 +104,14 @@ impl Pass {
         }
     }
 
+    /// Whether it is at a version entry.
+    pub fn is_at_version(self) -> bool {
+        match self.at {
+            Position::Kept { .. } => true,
+            Position::Entry { .. } | Position::Slot { .. } | Position::Aborted { .. } => false,
+        }
+    }
+
     // Nothing was found, and this is behind it.
     fn moved(self, to: Position, may_unlink: bool) -> Pass
         ensures { result ≡ pass_on may_unlink (Some to) self }
