@@ -31,11 +31,6 @@ const CROSSING: &[u8] = b"1> BEGIN;
 2> COMMIT;
 ";
 
-// The first numbers, of which two hundred make a script of eight sessions.
-const NUMBERS: u64 = 1611;
-
-const SCRIPTS: u64 = 200;
-
 const LENGTH: Length = Length {
     transactions: 3,
     statements: 4,
@@ -101,22 +96,70 @@ fn meet<R: Threads + Wait + Sync>(
     Ok(Some(verdict?))
 }
 
-#[test]
-fn scripts_of_eight_sessions_are_right(rt: HostRuntime) -> Result<(), Fail> {
-    let alloc = rt.alloc();
-    let base = prepared(alloc, BEFORE)?;
-    let mut met = Met::new();
-    let mut scripts = 0u64;
-    for number in 1..=NUMBERS {
-        let verdict = meet(&rt, alloc, &base, number, &mut met)?;
-        assert!(rt;
-            verdict.unwrap_or(Verdict::Well) == Verdict::Well,
-            "script {number}: {verdict:?}"
-        );
-        scripts = scripts.saturating_add(u64::from(verdict.is_some()));
+// What came of the scripts of a hundred numbers.
+#[derive(Clone, Copy, Debug)]
+struct Hundred {
+    met: Met,
+    scripts: u64,
+    // The last script that was played wrongly.
+    wrong: Option<(u64, Verdict)>,
+}
+
+impl Hundred {
+    fn count(&mut self, number: u64, verdict: Verdict) {
+        self.scripts = self.scripts.saturating_add(1);
+        if verdict != Verdict::Well {
+            self.wrong = Some((number, verdict));
+        }
     }
-    assert_eq!(rt; scripts, SCRIPTS);
-    assert!(rt; met.has_all(SCRIPTS / 2), "{met:?}");
+
+    fn is_right(self) -> bool {
+        self.scripts == 100 && self.wrong.is_none() && self.met.has_all(50)
+    }
+}
+
+fn meet_all<R: Threads + Wait + Sync>(
+    rt: &R,
+    alloc: Global,
+    base: &Base,
+    (from, to): (u64, u64),
+) -> Result<Hundred, OutOfMemory> {
+    let mut hundred = Hundred {
+        met: Met::new(),
+        scripts: 0,
+        wrong: None,
+    };
+    for number in from..=to {
+        if let Some(verdict) = meet(rt, alloc, base, number, &mut hundred.met)? {
+            hundred.count(number, verdict);
+        }
+    }
+    Ok(hundred)
+}
+
+// Plays the scripts of eight sessions among those of these numbers.
+fn meet_hundred<R: Threads + Wait + Sync>(
+    rt: &R,
+    alloc: Global,
+    numbers: (u64, u64),
+) -> Result<Hundred, OutOfMemory> {
+    let base = prepared(alloc, BEFORE)?;
+    let hundred = meet_all(rt, alloc, &base, numbers);
+    drop(base);
+    hundred
+}
+
+#[test]
+fn a_hundred_scripts_of_eight_sessions_are_right(rt: HostRuntime) -> Result<(), Fail> {
+    let hundred = meet_hundred(&rt, rt.alloc(), (1, 739))?;
+    assert!(rt; hundred.is_right(), "{hundred:?}");
+    Ok(())
+}
+
+#[test]
+fn another_hundred_are_right(rt: HostRuntime) -> Result<(), Fail> {
+    let hundred = meet_hundred(&rt, rt.alloc(), (740, 1611))?;
+    assert!(rt; hundred.is_right(), "{hundred:?}");
     Ok(())
 }
 
