@@ -42,7 +42,8 @@ use Rattle.ctr_pass.specs.declared.pass.Phase.TheVariants.{Idle}
 use Rattle.ctr_pass.specs.Passing.{noted, pass_behind}
 use Rattle.ctr_pass.specs.Sparing.{HaveNobody, IsNobodyInside, keeping_room, with_cleaner}
 use Rattle.ctr_world.specs.declared.opening.Opening.{Ghosts as Opening}
-use Rattle.ctr_world.specs.Cleaning.{IsIdlePass, noted_pass}
+use Rattle.ctr_pass.proofs.walk_Joins.{answers_ok}
+use Rattle.ctr_world.specs.Cleaning.{IsIdlePass, ReadsWhereNone, noted_pass}
 use Rattle.ctr_world.specs.Held.{Running}
 use Rattle.ctr_world.specs.World.{FullCountsAll, IsWorldReady, KeepsPassIn, Shows, led_to, passed_over, start_in}
 
@@ -72,6 +73,12 @@ still_going first g a b x (Grows grows) = grows.more.counts.going
 
 one_apart : (n : ℕ) → n ≡ n + 1 → ⊥
 one_apart n is = omega (arith, is)
+
+-- where it logged nothing it read pages
+pub read_where_none : {D T : Type 0} (first : Image) (g : Ghosts D) (a b : View D) (x : T) → Turns first g a b (Ok x) → b.now.counted ≡ a.now.counted → ReadsWhereNone first g a b
+read_where_none first g a b x (Reads leaves) counted none = answers_ok first g x tt a b leaves
+read_where_none first g a b x (LogsARecord logs) counted none = absurd (one_apart a.next (sym none ∙ logs.1.takes.next))
+read_where_none first g a b x (Grows grows) counted none = absurd (no_more grows.between.now.counted b.now.counted grows.more.few grows.more.counts.counted (counted ∙ sym grows.read.keeps.counted))
 
 -- what a turn did, by a record of it, or by none
 abbrev pub CleansOrPasses : Heeded → Position → State → State → CleanTurn → Type 0

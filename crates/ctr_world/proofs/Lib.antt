@@ -4,6 +4,7 @@ pub mod Refused
 mod Keeping
 mod Passes
 mod Cleaned
+mod Onward
 mod Roomy
 mod Bare
 mod Filling

@@ -1,11 +1,14 @@
 -- What a turn of the cleaner does in a World.
-use Rattle.std.specs.Prelude.{◌≡◌, ◌⊎◌, ◌+◌, ◌<◌}
-use Rattle.ctr_store.specs.Store.{HasTurnRoom, turns_for_room}
+use Rattle.std.specs.Prelude.{◌≡◌, ◌⊎◌, ◌+◌, ◌<◌, ℕ, zero, suc, Ok, ⊤}
+use Rattle.ctr_disk.specs.Image.{Image}
+use Rattle.ctr_disk.specs.declared.disk.Disk.{Ghosts}
+use Rattle.ctr_store.specs.Store.{View, HasTurnRoom, LeavesPage, turns_for_room}
 use Rattle.ctr_pass.specs.cleaner_Turning.{next_cleaned}
 use Rattle.ctr_pass.specs.declared.going.Went.{Went}
 use Rattle.ctr_pass.specs.declared.pass.Pass.{Pass}
 use Rattle.ctr_pass.specs.declared.pass.Phase.TheVariants.{Idle}
 use Rattle.ctr_pass.specs.Passing.{noted, pass_behind}
+use Rattle.ctr_world.specs.declared.cleaning.TheConstants.{POSITIONS}
 use Rattle.ctr_world.specs.Held.{Running}
 
 -- the pass once the cleaner has looked at what happened since its last turn
@@ -17,7 +20,7 @@ noted_pass w = noted w.pass w.store.next w.sessions.tape.items
 abbrev pub IsIdlePass : {D : Type 0} → Running D → Type 0
 IsIdlePass w = (noted_pass w).phase ≡ Idle
 
--- A turn was taken at the pass's position, or at its entry: a record was logged there, or the pass
+-- A step was taken at the pass's position, or at its entry: a record was logged there, or the pass
 -- goes on from there.
 pub record CleansHere {D : Type 0} (old new : Running D) : Type 0 where
   pub went : Went
@@ -25,12 +28,27 @@ pub record CleansHere {D : Type 0} (old new : Running D) : Type 0 where
       ≡ pass_behind (noted_pass old) went.from went.did old.sessions.txns.cleaner new.store.next
   pub numbers : new.store.next ≡ next_cleaned went.did old.store.next
 
--- The store came nearer to room by a turn, where it had none, and the pass is as it was; or a turn
--- was taken in the pass.
+-- A step was taken, and so many more behind it, each from where the one before it had come to. The
+-- last alone may have logged a record.
+abbrev pub CleansAlong : {D : Type 0} → ℕ → Running D → Running D → Type 0
+CleansAlong zero old new = CleansHere old new
+CleansAlong (suc n) old new = (mid : Running _) × CleansAlong n old mid
+    × (mid.store.next ≡ old.store.next) × CleansHere mid new
+
+-- Steps were taken in the pass, as many as a turn may take at most.
+abbrev pub CleansOnward : {D : Type 0} → Running D → Running D → Type 0
+CleansOnward old new = (n : ℕ) × (n < POSITIONS) × CleansAlong n old new
+
+-- what logged no record read pages, and that is all
+abbrev pub ReadsWhereNone : {D : Type 0} → Image → Ghosts D → View D → View D → Type 0
+ReadsWhereNone first g a b = b.next ≡ a.next → LeavesPage {T = ⊤} first g a b (Ok tt)
+
+-- The store came nearer to room by a turn, where it had none, and the pass is as it was; or steps
+-- were taken in the pass.
 abbrev pub CleansOn : {D : Type 0} → Running D → Running D → Type 0
 CleansOn old new = ((HasTurnRoom old.store → ⊥)
     × (turns_for_room new.store < turns_for_room old.store) × (new.pass ≡ old.pass))
-    ⊎ CleansHere old new
+    ⊎ CleansOnward old new
 
 -- What others leave of the cleaner's pass: it is as it was; and so is undo's list, where no record
 -- was logged.

@@ -8,7 +8,7 @@ ghost use Rattle.ctr_pass.specs.session_world_Ready.{LeavesDisk};
 ghost use Rattle.ctr_pass.specs.exec_Sessions.{AreAnswers, OrFails};
 ghost use Rattle.ctr_world.specs.Held.{running};
 ghost use Rattle.ctr_world.specs.World.{IsWorldReady, KeepsPassIn, Shows};
-ghost use Rattle.ctr_world.specs.Cleaning.{CleansHere, IsIdlePass, noted_pass};
+ghost use Rattle.ctr_world.specs.Cleaning.{CleansHere, CleansOnward, IsIdlePass, ReadsWhereNone, noted_pass};
 ghost use Rattle.ctr_world.specs.Turns.{AddsUnlessFails, CleanerEnds, LogsOneAtMost};
 
 use crate::engine::Engine;
@@ -25,6 +25,10 @@ use ctr_pass::{
 use ctr_types::Turn;
 use ctr_undo::{a_turn_of_undo_is_kept, names_of_what_is_left_stay};
 
+/// At how many positions of its pass a turn of the cleaner looks, at most: where versions are kept faster than lines are run, most entries that a pass comes by
+/// are of rows that it hasn't come to again.
+const POSITIONS: usize = 16;
+
 /// What the cleaner may do in a table that is dead: a page may leave its chain while room is kept for an item of the cleaner's, and an entry is freed where
 /// nobody is in a transaction.
 fn may_empty(sessions: &Sessions) -> MayEmpty
@@ -39,7 +43,7 @@ fn may_empty(sessions: &Sessions) -> MayEmpty
 }
 
 impl<D: Disk, B: Origin + Opening> Engine<D, B> {
-    // A turn in the cleaner's pass, which isn't idle once it has looked at what happened since its last turn.
+    // A step in the cleaner's pass, which isn't idle once it has looked at what happened since its last one.
     fn clean_next(&mut self, noted: Pass) -> Result<(), StoreFault>
         requires ready { IsWorldReady B.Opening D.Disk (running self.old) }
         requires room { HasTurnRoom self.old.store × (self.old.store.next < 2 ^ 63 - 1) }
@@ -49,6 +53,7 @@ impl<D: Disk, B: Origin + Opening> Engine<D, B> {
         ensures kept { (s : State) → WhereSound B.first D.Disk (Shows B.Opening B.first D.Disk s (running self.old) → KeepsPassIn B.Opening s (running self.old)
             → OrFails (Shows B.Opening B.first D.Disk s (running self.new) × KeepsPassIn B.Opening s (running self.new)) result) }
         ensures cleans { OnOk result (CleansHere (running self.old) (running self.new)) }
+        ensures page { OnOk result (ReadsWhereNone B.first D.Disk self.old.store self.new.store) }
         ensures same { self.new ≡ record self.old { store = self.new.store; sessions = record self.old.sessions { txns = self.new.sessions.txns }; pass = self.new.pass } }
         ensures disk { LeavesDisk B.first D.Disk self.old.store self.new.store result }
     {
@@ -84,7 +89,45 @@ impl<D: Disk, B: Origin + Opening> Engine<D, B> {
         }
     }
 
-    /// A turn of the cleaner: it is idle where its pass is; else a turn for room, where the store has none, or one in its pass. All commits that are
+    // A step in the cleaner's pass, and from there along version entries until one logged a record, there is no room, or so many were taken as a turn may take.
+    fn clean_onward(&mut self, noted: Pass) -> Result<(), StoreFault>
+        requires ready { IsWorldReady B.Opening D.Disk (running self.old) }
+        requires room { HasTurnRoom self.old.store × (self.old.store.next < 2 ^ 63 - 1) }
+        requires noted { noted ≡ noted_pass (running self.old) }
+        requires goes { IsIdlePass (running self.old) → ⊥ }
+        ensures ready { OnOk result (IsWorldReady B.Opening D.Disk (running self.new)) }
+        ensures kept { (s : State) → WhereSound B.first D.Disk (Shows B.Opening B.first D.Disk s (running self.old) → KeepsPassIn B.Opening s (running self.old)
+            → OrFails (Shows B.Opening B.first D.Disk s (running self.new) × KeepsPassIn B.Opening s (running self.new)) result) }
+        ensures cleans { OnOk result (CleansOnward (running self.old) (running self.new)) }
+        ensures one { OnOk result (LogsOneAtMost (running self.old) (running self.new)) }
+        ensures same { self.new ≡ record self.old { store = self.new.store; sessions = record self.old.sessions { txns = self.new.sessions.txns }; pass = self.new.pass } }
+        ensures disk { LeavesDisk B.first D.Disk self.old.store self.new.store result }
+    {
+        let next = self.store.next();
+        match self.clean_next(noted) {
+            Ok(()) => {}
+            Err(fault) => return Err(fault),
+        }
+        for taken in 1..POSITIONS {
+            if self.store.next() != next {
+                break;
+            }
+            if !self.pass.is_at_version() || !self.store.room() {
+                break;
+            }
+            let noted = self.pass.noted(self.store.next(), &self.sessions.tape);
+            if noted.is_idle() {
+                break;
+            }
+            match self.clean_next(noted) {
+                Ok(()) => {}
+                Err(fault) => return Err(fault),
+            }
+        }
+        Ok(())
+    }
+
+    /// A turn of the cleaner: it is idle where its pass is; else a turn for room, where the store has none, or steps in its pass until one logged a record. All commits that are
     /// durable then are answered.
     pub(crate) fn clean(&mut self) -> Result<Turn, StoreFault>
         requires ready { IsWorldReady B.Opening D.Disk (running self.old) }
@@ -112,7 +155,7 @@ impl<D: Disk, B: Origin + Opening> Engine<D, B> {
                 Err(fault) => Err(fault),
             };
         }
-        match self.clean_next(noted) {
+        match self.clean_onward(noted) {
             Ok(()) => {
                 self.answer();
                 Ok(Turn::Went)

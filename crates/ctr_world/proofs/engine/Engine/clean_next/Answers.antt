@@ -15,7 +15,7 @@ use Rattle.ctr_pass.specs.Sparing.{with_cleaner}
 use Rattle.ctr_world.specs.Cleaning.{noted_pass}
 use Rattle.ctr_world.specs.Held.{running}
 use Rattle.ctr_world.specs.World.{IsWorldReady, KeepsPassIn, Shows}
-use Rattle.ctr_world.proofs.Cleaned.{Laws, RestLaws, cleans_or_passes, heeds_nobody, pass_cleaned, place_behind, ready_cleaned, shows_cleaned, still_going, turned}
+use Rattle.ctr_world.proofs.Cleaned.{Laws, RestLaws, cleans_or_passes, heeds_nobody, pass_cleaned, place_behind, read_where_none, ready_cleaned, shows_cleaned, still_going, turned}
 use Rattle.ctr_world.proofs.engine.Engine.clean_next.Goals as goal
 
 pub returns-in-Ok-clause-ready : goal.returns-in-Ok-clause-ready
@@ -89,6 +89,9 @@ returns-in-Ok-clause-cleans g c =
           ∙ ap (λ (m : Bool). pass_behind (noted_pass (running c.args.self.now)) went.from went.did m c.clean_from-cleaned.new.store.next) c.may_empty-may.ensures.unlink;
       numbers = c.in-Ok.ensures.counts.numbers;
     }
+
+pub returns-in-Ok-clause-page : goal.returns-in-Ok-clause-page
+returns-in-Ok-clause-page g c = read_where_none g.B.Origin.first g.D.Disk c.args.self.now.store c.clean_from-cleaned.new.store c.in-Ok.went c.in-Ok.ensures.turns c.in-Ok.ensures.counts.counted
 
 pub returns-in-Ok-clause-disk : goal.returns-in-Ok-clause-disk
 returns-in-Ok-clause-disk g c =
