@@ -69,4 +69,14 @@ impl EntryKeys {
         };
         *locked = true;
     }
+
+    /// Gives back the memory of so many keys, or of all; false where none is left.
+    pub fn give_back(&mut self, most: usize) -> bool {
+        for _ in 0..most {
+            if self.keys.pop_first().is_none() {
+                return false;
+            }
+        }
+        true
+    }
 }

@@ -7,6 +7,7 @@ mod entry;
 mod held;
 mod laws;
 mod locks;
+mod released;
 mod session;
 
 pub use held::Held;

@@ -3,6 +3,7 @@ ghost use Rattle.std.specs.Prelude.{◌≡◌, true, false, [], OnOk, OnErr};
 ghost use Rattle.ctr_locks.specs.Held.{locks_key, first_that, busy_among, locked_among, held_by_session, held_told, IsInOrder, OneHolder, IsHolder, HasRoomForKey, HasRoomForName, OfSession, SameHeld, LocksEntryKey, UsesName, HoldsName, FreesAll, IsSessionThere};
 
 use crate::held::Held;
+use crate::released::Released;
 use crate::session::SessionLocks;
 use ctr_model::Key;
 use ctr_types::{Name, OutOfMemory};
@@ -15,6 +16,8 @@ use std::marker::Model;
 #[derive(Drop)]
 pub struct KeyLocks {
     sessions: BTreeMap<u8, SessionLocks>,
+    // what sessions had, which nobody is kept off by
+    released: Released,
 }
 
 impl Model for KeyLocks {
@@ -37,6 +40,7 @@ impl KeyLocks {
     {
         KeyLocks {
             sessions: BTreeMap::new(alloc),
+            released: Released::new(alloc),
         }
     }
 
@@ -87,13 +91,28 @@ impl KeyLocks {
         ensures there { OnOk result (IsSessionThere s self.new) }
     {
         if self.sessions.get(&s).is_none() {
+            self.released.make_room();
             self.sessions.insert(s, SessionLocks::new(alloc))?;
         }
         Ok(())
     }
 
-    /// Takes room for the lock of a key, so that `try_lock` of it takes no memory.
-    pub fn reserve_key(
+    // The memory of some keys is given back that nobody has locked any more.
+    fn give_back(&mut self)
+        ensures { self.new ≡ self.old }
+    {
+        self.released.give_back();
+    }
+
+    // The memory of all such keys.
+    fn give_back_all(&mut self)
+        ensures { self.new ≡ self.old }
+    {
+        self.released.give_back_all();
+    }
+
+    // Takes room for the lock of a key.
+    fn take_key_room(
         &mut self,
         alloc: Global,
         s: u8,
@@ -109,6 +128,25 @@ impl KeyLocks {
         };
         locks.make_key_room(alloc, entry, key)?;
         Ok(())
+    }
+
+    /// Takes room for the lock of a key, so that `try_lock` of it takes no memory.
+    pub fn reserve_key(
+        &mut self,
+        alloc: Global,
+        s: u8,
+        entry: u8,
+        key: Key,
+    ) -> Result<(), OutOfMemory>
+        ensures same { OfSession s SameHeld self.old self.new }
+        ensures room { OnOk result (HasRoomForKey entry key (held_by_session s self.new)) }
+    {
+        self.give_back();
+        if self.take_key_room(alloc, s, entry, key).is_ok() {
+            return Ok(());
+        }
+        self.give_back_all();
+        self.take_key_room(alloc, s, entry, key)
     }
 
     /// Takes room for a use and a hold of a name, so that `use_table` and `hold_name` take no memory.
@@ -175,11 +213,13 @@ impl KeyLocks {
         Ok(())
     }
 
-    /// What a session has is free, and no other's changes. It takes no memory.
+    /// What a session has is free, and no other's changes. It takes no memory, and no longer the more the session has: that memory is given back as
+    /// room is taken for locks of keys.
     pub fn release_all(&mut self, s: u8)
         ensures { OfSession s FreesAll self.old self.new }
     {
-        self.sessions.remove(&s);
+        let locks = self.sessions.remove(&s);
+        self.released.keep(locks);
     }
 }
 

@@ -132,4 +132,19 @@ impl SessionLocks {
         };
         name.held = true;
     }
+
+    /// Gives back the memory of so many keys of an entry, or of an entry; false where no entry is left.
+    pub fn give_back(&mut self, most: usize) -> bool {
+        let Some((entry, _)) = self.entries.first_key_value() else {
+            return false;
+        };
+        let entry = *entry;
+        let Some(keys) = self.entries.get_mut(&entry) else {
+            return false;
+        };
+        if !keys.give_back(most) {
+            let _ = self.entries.remove(&entry);
+        }
+        true
+    }
 }
