@@ -1,5 +1,5 @@
 -- The last of the commits that changed an entry.
-use Rattle.std.proofs.Common.{◌≡◌, ◌⊎◌, inl, inr, ⊎_elim, ℕ, zero, suc, ◌+◌, ◌<◌, ◌≤◌, cond, List, Option, Some, None, refl, sym, ◌∙◌, ap, arith}
+use Rattle.std.proofs.Common.{◌≡◌, ◌⊎◌, inl, inr, ⊎_elim, ℕ, zero, suc, ◌+◌, ◌-◌, ◌<◌, ◌≤◌, cond, List, Option, Some, None, refl, sym, ◌∙◌, ap, arith}
 use Rattle.std.specs.Prelude.{is_some, nat_lt}
 use Rattle.std.proofs.lemmas.Bool.{cases_eq, false≢true, ltb-true, ltb-false}
 use Rattle.ctr_snap.specs.Seeing.{SnapshotTaken}
@@ -13,6 +13,10 @@ later_cases (Some i) None k is = inl is
 later_cases (Some i) (Some j) k is = known (nat_lt i j)
     (λ lt. inr (sym (ap (λ b. cond b (Some j) (Some i)) lt) ∙ is))
     (λ ge. inl (sym (ap (λ b. cond b (Some j) (Some i)) ge) ∙ is))
+
+later_none : (a : Option ℕ) → later a None ≡ a
+later_none None = refl
+later_none (Some i) = refl
 
 -- it is no earlier than either
 abbrev IsFrom : ℕ → Option ℕ → Type 0
@@ -48,6 +52,22 @@ module _ (commits : List ℕ) (site : Site) (snapshot : SnapshotTaken) (name : L
   -- with one entry more
   pub last_next : (n : ℕ) → last (n + 1) ≡ later (last n) (number n)
   last_next n = ap last (let z : n + 1 ≡ suc n = omega arith in z) ∙ last_suc n
+
+  -- over entries that nobody changed it is as before them
+  last_over : (from k : ℕ) → ((m : ℕ) → from ≤ m → m < from + k → number m ≡ None) → last (from + k) ≡ last from
+  last_over from zero none = ap last (let z : from + zero ≡ from = omega arith in z)
+  last_over from (suc k) none =
+      ap last (let z : from + suc k ≡ suc (from + k) = omega arith in z) ∙ last_suc (from + k)
+      ∙ ap (λ o. later o (number (from + k))) (last_over from k (λ m on lt. none m on (let z : m < from + suc k = omega (arith, lt) in z)))
+      ∙ ap (later (last from)) (none (from + k) (omega arith) (omega arith)) ∙ later_none (last from)
+
+  -- and with one entry more behind them
+  pub last_behind : (from e : ℕ) → from ≤ e → ((m : ℕ) → from ≤ m → m < e → number m ≡ None) → last (e + 1) ≡ later (last from) (number e)
+  last_behind from e le none =
+      last_next e
+      ∙ ap (λ o. later o (number e))
+      (ap last (let z : e ≡ from + (e - from) = omega (arith, le) in z)
+      ∙ last_over from (e - from) (λ m on lt. none m on (let z : m < e = omega (arith, le, lt) in z)))
 
   -- it is that of an entry
   pub last_is : (n k : ℕ) → last n ≡ Some k → (e : ℕ) × (e < n) × (number e ≡ Some k)

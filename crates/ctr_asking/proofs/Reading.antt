@@ -1,16 +1,20 @@
 -- Pages that are read one behind another, and searches that tell no damage.
-use Rattle.std.proofs.Common.{◌≡◌, inl, inr, Result, Ok, Err, refl, subst}
+use Rattle.std.proofs.Common.{◌≡◌, inl, inr, ℕ, ◌<◌, Option, None, Result, Ok, Err, refl, subst}
 use Rattle.std.specs.Prelude.{⊤, IfErr}
 use Rattle.ctr_disk.specs.declared.disk.Disk.{Ghosts}
 use Rattle.ctr_disk.specs.Image.{Image}
 use Rattle.ctr_disk.specs.declared.fault.StoreFault.{StoreFault}
 use Rattle.ctr_disk.specs.declared.fault.StoreFault.TheVariants.{Fault, Damaged}
+use Rattle.ctr_store.specs.rec_BadRecord.{BadRecord}
+use Rattle.ctr_record_effects.specs.page_BadChain.{BadChain}
+use Rattle.ctr_record_effects.specs.page_BadChain.TheVariants.{OnPage, TooLong}
 use Rattle.ctr_store.specs.Store.{View, LeavesPage}
 use Rattle.ctr_walk.specs.Damage.{EndsTold, ReadsPages}
 use Rattle.ctr_walk.proofs.Joins.{answers_ok, pages_join}
 use Rattle.ctr_walk.proofs.PagesRead.{HasRead}
 use Rattle.ctr_walk.proofs.Damages.{reads_err, reads_behind}
 use Rattle.ctr_wishes.specs.ctr_reading.undamaged_Undamaged.{MeetsNoDamage}
+use Rattle.ctr_wishes.specs.ctr_reading.catalog_Finding.{EndsEntry, EndsChange}
 
 module _ {D : Type 0} (first : Image) (g : Ghosts D) where
   -- a call that reads pages, behind one that was answered
@@ -55,3 +59,11 @@ pub undamaged : {T B : Type 0} (Ends : Result T B → Type 0) (told : B → Stor
 undamaged Ends told (Ok x) law ends = tt
 undamaged Ends told (Err Fault) law ends = refl
 undamaged Ends told (Err (Damaged d)) law ends = absurd (law.told told d ends)
+
+-- a look at several entries of the catalog ends at no damage where none at one of them does
+pub looks_well : (check : ℕ → Result ⊤ BadRecord) (is : ℕ → Option ℕ) (from : ℕ) → ((who : Option ℕ) (e : ℕ) → e < 32 → MeetsNoDamage (EndsEntry (check e) who e)) → MeetsNoDamage (EndsChange check is from)
+looks_well check is from law = record { ends = well; told = λ told d at. well at.0 at.1 }
+  where
+    well : (bad : BadChain) → EndsChange check is from (Err bad) → ⊥
+    well (OnPage q bad) (e, lt, fails, on) = (law None e lt).ends (OnPage q bad) (fails.fails, on)
+    well (TooLong last most) none = none

@@ -1,5 +1,5 @@
 // What speaks against an act by its table's name: the table isn't there, or is; the name is busy; the table was changed.
-ghost use Rattle.std.specs.Prelude.{◌≡◌, ◌<◌, false, IfOk, IfErr, option_and_then};
+ghost use Rattle.std.specs.Prelude.{◌≡◌, ◌<◌, ◌≤◌, ◌+◌, false, IfOk, IfErr, option_and_then};
 ghost use Rattle.ctr_disk.specs.declared.fault.StoreFault.TheVariants.{Fault};
 ghost use Rattle.ctr_model.specs.Refusals.{first_of};
 ghost use Rattle.ctr_model.specs.State.{has_name};
@@ -19,7 +19,7 @@ use ctr_store::Store;
 use ctr_txn::Txns;
 use ctr_types::{Name, Refusal, Statement, Xid};
 use ctr_wishes::reading::a_catalog_search_meets_no_damage;
-use ctr_wishes::reading::views::changed;
+use ctr_wishes::reading::views::changed_from;
 
 // Whether the table is there as the statement wants it.
 pub(crate) fn presence(statement: &Statement, found: Option<u8>) -> Option<Refusal>
@@ -70,26 +70,39 @@ fn number_of(txns: &Txns, who: Option<Xid>) -> Option<u64>
     }
 }
 
-// The commit by which the table of a name was made or dropped that an entry is, where a snapshot doesn't see it.
+// An entry of the catalog to which a look at some came, and the commit by which its table was changed.
+#[derive(Clone, Copy, Debug, PartialEq, Eq)]
+struct NumberAt {
+    entry: u8,
+    number: Option<u64>,
+}
+
+// The commit by which a table of a name was made or dropped, where a snapshot doesn't see it, of the entries from one on up to the one that
+// is answered.
 fn change_number<D: Disk, O: Origin>(
     store: &mut Store<D, O>,
-    entry: u8,
+    from: u8,
     name: &Name,
     snapshot: &Snapshot,
     txns: &Txns,
-) -> Result<Option<u64>, StoreFault>
+) -> Result<NumberAt, StoreFault>
     requires going { store.old.stopped ≡ false }
-    requires there { entry < 32 }
-    ensures tells { WhereSound O.first D.Disk (IfOk result (λ n. n ≡ change_number txns.now.numbers.commits (site_of store.old.now) snapshot.now name.now entry)) }
+    requires there { from < 32 }
+    ensures tells { WhereSound O.first D.Disk (IfOk result (λ at. last_change txns.now.numbers.commits (site_of store.old.now) snapshot.now name.now (at.entry + 1)
+        ≡ later (last_change txns.now.numbers.commits (site_of store.old.now) snapshot.now name.now from) at.number)) }
+    ensures inside { IfOk result (λ at. (from ≤ at.entry) × (at.entry < 32)) }
     ensures refused { WhereSound O.first D.Disk (IsDatabaseState store.old.now → IfErr result (λ e. e ≡ Fault)) }
     ensures leaves { ReadsPages O.first D.Disk store.old store.new result }
 {
     a_catalog_search_meets_no_damage();
-    let who = match changed(store, entry, name, snapshot) {
+    let at = match changed_from(store, from, name, snapshot) {
         Err(fault) => return Err(fault),
-        Ok(who) => who,
+        Ok(at) => at,
     };
-    Ok(number_of(txns, who))
+    Ok(NumberAt {
+        entry: at.entry,
+        number: number_of(txns, at.who),
+    })
 }
 
 /// The last commit by which a table of a name was made or dropped that a snapshot doesn't see.
@@ -105,12 +118,14 @@ pub(crate) fn last_change<D: Disk, O: Origin>(
     ensures leaves { ReadsPages O.first D.Disk store.old store.new result }
 {
     let mut last = None;
-    for entry in 0..32 {
-        let number = match change_number(store, entry, name, snapshot, txns) {
+    let mut entry = 0;
+    while entry < 32 {
+        let at = match change_number(store, entry, name, snapshot, txns) {
             Err(fault) => return Err(fault),
-            Ok(number) => number,
+            Ok(at) => at,
         };
-        last = later(last, number);
+        last = later(last, at.number);
+        entry = at.entry + 1;
     }
     Ok(last)
 }

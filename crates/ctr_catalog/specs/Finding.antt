@@ -1,5 +1,5 @@
 -- The table of a name that a snapshot sees, and whether one was changed since it was taken.
-use Rattle.std.specs.Prelude.{◌≡◌, ℕ, ◌+◌, ◌*◌, ◌/◌, ◌%◌, ◌<◌, Bool, false, not, ◌&&◌, List, ⊤, Option, None, Some, Result, Ok, Err, if◌then◌else◌}
+use Rattle.std.specs.Prelude.{◌≡◌, ℕ, ◌+◌, ◌*◌, ◌/◌, ◌%◌, ◌<◌, ◌≤◌, Bool, false, not, ◌&&◌, List, ⊤, Option, None, Some, is_some, Result, Ok, Err, if◌then◌else◌}
 use Rattle.ctr_model.specs.State.{same_name}
 use Rattle.ctr_snap.specs.Seeing.{SnapshotTaken}
 use Rattle.ctr_rec.specs.declared.decoding.BadRecord.{BadRecord}
@@ -15,6 +15,8 @@ use Rattle.ctr_names.specs.area_Areas.{Title, Area}
 use Rattle.ctr_alloc.specs.area_Reading.{title_of}
 use Rattle.ctr_names.specs.area_Images.{is_live}
 use Rattle.ctr_catalog.specs.declared.finding.MadeBy.{MadeBy}
+use Rattle.ctr_catalog.specs.declared.finding.MadeAt.{MadeAt}
+use Rattle.ctr_catalog.specs.declared.finding.ChangeAt.{ChangeAt}
 
 -- ---- an entry
 
@@ -30,6 +32,41 @@ NamedSaid counted name n page (Err bad) = entry_check counted (ENTRY_SIZE * n) p
 NamedSaid counted name n page (Ok made) =
     (entry_check counted (ENTRY_SIZE * n) page ≡ Ok tt)
     × (made ≡ made_by name (title_of (entry_at n page)))
+
+-- ---- several entries of a page
+
+-- Entries of one page were looked at, from one on: all up to the last pass their checks, nothing is
+-- said of those before it, and this of the last.
+pub record LooksTo {A : Type 0} (check : ℕ → Result ⊤ BadRecord) (is : ℕ → Option A)
+    (from last : ℕ) (said : Option A) : Type 0 where
+  pub from_on : from ≤ last
+  pub page : last / 16 ≡ from / 16
+  pub before : PassesBy check (λ e. is_some (is e)) from last
+  pub passes : check last ≡ Ok tt
+  pub is_said : said ≡ is last
+
+-- Or one of them is damaged: those before it pass, and nothing is said of them.
+pub record FailsAt {A : Type 0} (check : ℕ → Result ⊤ BadRecord) (is : ℕ → Option A)
+    (from e : ℕ) (bad : BadRecord) : Type 0 where
+  pub from_on : from ≤ e
+  pub page : e / 16 ≡ from / 16
+  pub before : PassesBy check (λ m. is_some (is m)) from e
+  pub fails : check e ≡ Err bad
+
+-- an entry of the catalog on a page fails its check
+abbrev pub checks_on : ℕ → List ℕ → ℕ → Result ⊤ BadRecord
+checks_on counted page e = entry_check counted (ENTRY_SIZE * (e % 16)) page
+
+-- who made and dropped the live table of a name that it is
+abbrev pub named_on : List ℕ → List ℕ → ℕ → Option MadeBy
+named_on name page e = made_by name (title_of (entry_at (e % 16) page))
+
+-- where a look at the entries of a page for a name ends
+abbrev pub EndsNamed : ℕ → List ℕ → ℕ → List ℕ → Result MadeAt BadRecord → Type 0
+EndsNamed counted name from page (Err bad) =
+    (e : ℕ) × FailsAt (checks_on counted page) (named_on name page) from e bad
+EndsNamed counted name from page (Ok at) =
+    LooksTo (checks_on counted page) (named_on name page) from at.entry at.made
 
 -- ---- what a snapshot sees
 
@@ -82,3 +119,12 @@ abbrev pub EndsEntry : {A : Type 0} → Result ⊤ BadRecord → A → ℕ → R
 EndsEntry check is e (Ok x) = (check ≡ Ok tt) × (x ≡ is)
 EndsEntry check is e (Err (OnPage q bad)) = (check ≡ Err bad) × (q ≡ 1 + e / 16)
 EndsEntry check is e (Err (TooLong last most)) = ⊥
+
+-- Where a look at the entries of a page from one on ends: what is said of the last, and nothing of
+-- those before it; or the damage of the first that fails its check, on its page.
+abbrev pub EndsChange : (ℕ → Result ⊤ BadRecord) → (ℕ → Option ℕ) → ℕ → Result ChangeAt BadChain
+    → Type 0
+EndsChange check is from (Ok at) = LooksTo check is from at.entry at.who
+EndsChange check is from (Err (OnPage q bad)) =
+    (e : ℕ) × (e < 32) × FailsAt check is from e bad × (q ≡ 1 + e / 16)
+EndsChange check is from (Err (TooLong last most)) = ⊥

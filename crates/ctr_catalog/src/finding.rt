@@ -1,11 +1,11 @@
 // The table of a name that a snapshot sees, and whether one was changed since it was taken.
-ghost use Rattle.std.specs.Prelude.{◌≡◌, ◌<◌, ◌+◌, ◌/◌, ◌%◌, false, IfOk, IfSome, length};
+ghost use Rattle.std.specs.Prelude.{◌≡◌, ◌<◌, ◌≤◌, ◌+◌, ◌/◌, ◌%◌, false, IfOk, IfSome, length};
 ghost use Rattle.ctr_alloc.specs.base_Base.{WhereSound};
 ghost use Rattle.ctr_names.specs.page_table_TheConstants.{PAGE_SIZE};
 ghost use Rattle.ctr_alloc.specs.store_Store.{LeavesPage};
 ghost use Rattle.ctr_alloc.specs.record_effects_States.{pages_in, area_in};
 ghost use Rattle.ctr_alloc.specs.walk_Damage.{damage_told, searched, EndsOnPage, EndsTold, ReadsPages};
-ghost use Rattle.ctr_catalog.specs.Finding.{NamedSaid, stands_seen, change_since, is_made_so, change_made, checks_at, entry_seen, changed_in, EndsEntries, EndsEntry};
+ghost use Rattle.ctr_catalog.specs.Finding.{NamedSaid, EndsNamed, stands_seen, change_since, is_made_so, change_made, checks_at, entry_seen, changed_in, EndsEntries, EndsEntry, EndsChange};
 
 use crate::entries::is_live_of;
 use ctr_alloc::{Origin, SearchFault, Store, catalog_page, found_on, tell};
@@ -39,6 +39,32 @@ fn named_in(name: &Name, entry: u8, counted: u32, page: &[u8]) -> Result<Option<
     }))
 }
 
+/// An entry of the catalog to which a look at some came, and who made and dropped the live table of the name that it is.
+#[derive(Clone, Copy, Debug, PartialEq, Eq)]
+pub(crate) struct MadeAt {
+    pub(crate) entry: u8,
+    pub(crate) made: Option<MadeBy>,
+}
+
+/// The same of the entries from one on that stand with it on a page, up to the first that is such a table, or the last of the page.
+fn named_from(name: &Name, from: u8, counted: u32, page: &[u8]) -> Result<MadeAt, BadPage>
+    requires some { 0 < counted }
+    requires there { from < 32 }
+    requires whole { length page.now ≡ PAGE_SIZE }
+    ensures said { EndsNamed counted name.now from page.now result }
+    ensures inside { IfOk result (λ at. (from ≤ at.entry) × (at.entry < 32)) }
+{
+    let end = from / 16 * 16 + 16;
+    for entry in from..end {
+        let made = named_in(name, entry % 16, counted, page)?;
+        if made.is_some() {
+            return Ok(MadeAt { entry, made });
+        }
+    }
+    let entry = end - 1;
+    Ok(MadeAt { entry, made: None })
+}
+
 /// The same of an entry of a store's catalog.
 fn named_at<D: Disk, O: Origin>(
     store: &mut Store<D, O>,
@@ -55,6 +81,25 @@ fn named_at<D: Disk, O: Origin>(
     let at = catalog_page(entry);
     let page = store.page(at)?;
     found_on(at, named_in(name, entry % 16, counted, page))
+}
+
+/// The same of the entries from one on that stand with it on its page of a store's catalog.
+fn named_behind<D: Disk, O: Origin>(
+    store: &mut Store<D, O>,
+    name: &Name,
+    from: u8,
+    counted: u32,
+) -> Result<MadeAt, SearchFault>
+    requires going { store.old.stopped ≡ false }
+    requires some { 0 < counted }
+    requires there { from < 32 }
+    ensures said { WhereSound O.first D.Disk (IfOk (searched result) (EndsOnPage (1 + from / 16) (EndsNamed counted name.now from (pages_in store.old.now (1 + from / 16))))) }
+    ensures inside { IfOk result (λ at. (from ≤ at.entry) × (at.entry < 32)) }
+    ensures leaves { LeavesPage O.first D.Disk store.old store.new (searched result) }
+{
+    let at = catalog_page(from);
+    let page = store.page(at)?;
+    found_on(at, named_from(name, from, counted, page))
 }
 
 /// Whether a table stands for a snapshot: it sees who made it, and not who dropped it.
@@ -174,5 +219,56 @@ pub fn changed<D: Disk, O: Origin>(
 {
     let _tables = store.meta();
     let found = change_of(store, entry, name, snapshot);
+    tell(store, found)
+}
+
+/// An entry of the catalog to which a look at some came, and who changed the table that it is.
+#[derive(Clone, Copy, Debug, PartialEq, Eq)]
+pub struct ChangeAt {
+    /// Its number, below 32.
+    pub entry: u8,
+    /// Who changed it, where anybody did.
+    pub who: Option<Xid>,
+}
+
+/// Who changed a table of a name since a snapshot was taken, of the entries from one on that stand on its page. Each is checked.
+fn change_behind<D: Disk, O: Origin>(
+    store: &mut Store<D, O>,
+    from: u8,
+    name: &Name,
+    snapshot: &Snapshot,
+) -> Result<ChangeAt, SearchFault>
+    requires going { store.old.stopped ≡ false }
+    requires there { from < 32 }
+    ensures ends { WhereSound O.first D.Disk (IfOk (searched result) (EndsChange (checks_at store.old.now.counted (pages_in store.old.now)) (changed_in store.old.meta.tables snapshot.now name.now (area_in store.old.now)) from)) }
+    ensures inside { IfOk result (λ at. (from ≤ at.entry) × (at.entry < 32)) }
+    ensures leaves { LeavesPage O.first D.Disk store.old store.new (searched result) }
+{
+    store.counts_pages();
+    let counted = store.counted();
+    let found = named_behind(store, name, from, counted)?;
+    Ok(ChangeAt {
+        entry: found.entry,
+        who: change_found(store.meta(), snapshot, found.made),
+    })
+}
+
+/// The same as `changed` of several entries, from one on, for one reading of the page that they stand on: nobody is answered of those before the
+/// last that was looked at, and this is who is answered of it. To ask of all go on behind it. It logs nothing, and takes no memory.
+pub fn changed_from<D: Disk, O: Origin>(
+    store: &mut Store<D, O>,
+    from: u8,
+    name: &Name,
+    snapshot: &Snapshot,
+) -> Result<ChangeAt, StoreFault>
+    requires going { store.old.stopped ≡ false }
+    requires there { from < 32 }
+    ensures ends { WhereSound O.first D.Disk (EndsTold (damage_told D.Disk store.new) (EndsChange (checks_at store.old.now.counted (pages_in store.old.now)) (changed_in store.old.now.tables snapshot.now name.now (area_in store.old.now)) from) result) }
+    // It is an entry of the catalog, and not before the first.
+    ensures inside { IfOk result (λ at. (from ≤ at.entry) × (at.entry < 32)) }
+    ensures leaves { ReadsPages O.first D.Disk store.old store.new result }
+{
+    let _tables = store.meta();
+    let found = change_behind(store, from, name, snapshot);
     tell(store, found)
 }

@@ -13,7 +13,7 @@ mod writing;
 pub use columns::{SchemaRefusal, schema};
 pub use ctr_alloc::{NextFree, alloc, next_free};
 pub use entries::{ENTRIES_ON_PAGE, find_free, found_in_area};
-pub use finding::{changed, find};
+pub use finding::{ChangeAt, changed, changed_from, find};
 pub use showing::{what_changed_answers_is_told, what_find_answers_is_found};
 pub use store::{a_free_entry_is_the_lowest, find_free_entry};
 pub use writing::{CatalogRefusal, create, drop_table, undo_item};

@@ -153,6 +153,9 @@ module _ (sought : ℕ → Bool) (counted : ℕ) (pages : ℕ → List ℕ) (at 
     pub found_there : from.page < 30000
     found_there = there f.xid f.at is
 
+    pub passes_there : found_check counted t f.at from.slot (pages from.page) ≡ Ok tt
+    passes_there = passes f.xid f.at is
+
     pub never_bad : (bad : BadRecord) → found_check counted t f.at from.slot (pages from.page) ≡ Err bad → ⊥
     never_bad bad err = let e = sym (passes f.xid f.at is) ∙ err in cc
 

@@ -11,7 +11,7 @@ use Rattle.ctr_page.specs.declared.rows.RowSlot.{RowSlot}
 use Rattle.ctr_page.specs.declared.rows.VersionEntry.{VersionEntry}
 use Rattle.ctr_page.specs.Columns.{kinds_of}
 use Rattle.ctr_names.specs.area_Areas.{RowVersion, Slot, Older, Area, free_slot, free_older}
-use Rattle.ctr_pvs.specs.area_Reading.{row_said, version_said, slot_said, older_said}
+use Rattle.ctr_pvs.specs.area_Reading.{version_said, slot_said, older_said}
 use Rattle.ctr_names.specs.area_Chains.{chain_of}
 use Rattle.ctr_chain.specs.declared.seeking.Found.{Found}
 use Rattle.ctr_chain.specs.Rows.{row_of_version, row_if_any, head_row, previous_row, kept_row}

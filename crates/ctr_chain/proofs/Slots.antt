@@ -1,5 +1,5 @@
 -- What a slot that is looked at says, and the search by it.
-use Rattle.std.proofs.Common.{◌≡◌, ℕ, cond, Bool, true, false, List, Option, None, Some, Result, Ok, inl, inr, refl, sym, ◌∙◌, ap}
+use Rattle.std.proofs.Common.{◌≡◌, ℕ, cond, Bool, true, false, List, Option, None, Some, Result, Ok, Err, inl, inr, refl, sym, ◌∙◌, ap}
 use Rattle.std.specs.Prelude.{◌==◌, ⊤}
 use Rattle.std.specs.Option.{option_map}
 use Rattle.std.proofs.lemmas.Bool.{eq-eqb}
@@ -8,6 +8,7 @@ use Rattle.ctr_types.specs.declared.value.Kind.{Kind}
 use Rattle.ctr_bytes.specs.Following.{◌>>=◌}
 use Rattle.ctr_rec.specs.declared.decoding.BadRecord.{BadRecord}
 use Rattle.ctr_page.specs.declared.walk.BadChain.{BadChain}
+use Rattle.ctr_page.specs.declared.walk.BadChain.TheVariants.{OnPage}
 use Rattle.ctr_page.specs.declared.rows.Place.{Place}
 use Rattle.ctr_page.specs.declared.rows.Version.{Version}
 use Rattle.ctr_page.specs.declared.rows.RowSlot.{RowSlot}
@@ -19,12 +20,12 @@ use Rattle.ctr_pvs.specs.walk_TableOf.{TableOf}
 use Rattle.ctr_pvs.specs.Table.{told_of, TableSaid}
 use Rattle.ctr_pvs.specs.walk_Tables.{kinds_said}
 use Rattle.ctr_pvs.specs.Reading.{row_on_check, row_check_at}
-use Rattle.ctr_pvs.proofs.Told.{IsPageOf, page_of_table, by_table}
+use Rattle.ctr_pvs.proofs.Told.{IsPageOf, page_of_table, no_table_first, by_table}
 use Rattle.ctr_chain.specs.declared.looking.SlotLook.{SlotLook}
 use Rattle.ctr_chain.specs.declared.seeking.Found.{Found}
 use Rattle.ctr_chain.specs.declared.seeking.VersionAt.TheVariants.{Head, Previous}
 use Rattle.ctr_chain.specs.Looking.{xid_there, look_of_slot, LooksAtRow}
-use Rattle.ctr_chain.specs.Seeking.{EntriesOf, most_entries, sought_along, xid_if_any, FoundIn, entries_on, sought_at}
+use Rattle.ctr_chain.specs.Seeking.{EntriesOf, most_entries, sought_along, xid_if_any, FoundIn, sought_in, entries_on, sought_at}
 use Rattle.ctr_chain.proofs.Steps.{at_end}
 
 -- what a look at a slot of an area gives
@@ -114,3 +115,16 @@ module _ (counted : ℕ) (pages : ℕ → List ℕ) (at : Place) (t : TableOf) (
         searched l looks
         ∙ ap (λ b. cond b (Ok (Some (record { xid = l.head; at = Head }))) (cond (sought l.previous) (Ok (Some (record { xid = l.previous; at = Previous }))) (sought_along sought r (most_entries r) at.page l.older))) none.0
         ∙ ap (λ b. cond b (Ok (Some (record { xid = l.previous; at = Previous }))) (sought_along sought r (most_entries r) at.page l.older)) none.1
+
+-- where the table of the page isn't told, the search ends there
+pub no_table : (counted : ℕ) (pages : ℕ → List ℕ) (at : Place) (sought : ℕ → Bool) (bad : BadChain) → TableSaid 1 counted pages at.page (Err bad) → sought_at sought counted pages at ≡ Err bad
+no_table counted pages at sought bad said =
+    ap (λ (c : Result ⊤ BadChain). c >>= λ _. sought_in sought (entries_on counted pages at.page) at.page ((area_of pages).slot at))
+    (no_table_first 1 counted pages at.page (λ e ks. row_on_check counted e ks at.slot (pages at.page)) bad said)
+
+-- and where the slot of the table fails its check
+pub no_slot : (counted : ℕ) (pages : ℕ → List ℕ) (at : Place) (t : TableOf) (sought : ℕ → Bool) (bad : BadRecord) → TableSaid 1 counted pages at.page (Ok t) → LooksAtRow counted t at.slot (pages at.page) (Err bad)
+    → sought_at sought counted pages at ≡ Err (OnPage at.page bad)
+no_slot counted pages at t sought bad said wrong =
+    ap (λ (c : Result ⊤ BadChain). c >>= λ _. sought_in sought (entries_on counted pages at.page) at.page ((area_of pages).slot at))
+    (by_table 1 counted pages at.page t (λ e ks. row_on_check counted e ks at.slot (pages at.page)) (Err bad) said wrong)

@@ -5,11 +5,13 @@ use Rattle.ctr_types.specs.declared.value.Kind.{Kind}
 use Rattle.ctr_types.specs.declared.value.Row.{Row}
 use Rattle.ctr_rec.specs.declared.decoding.BadRecord.{BadRecord}
 use Rattle.ctr_page.specs.declared.rows.Place.{Place}
+use Rattle.ctr_page.specs.declared.rows.RowSlot.{RowSlot}
+use Rattle.ctr_page.specs.Places.{slot_size}
 use Rattle.ctr_page.specs.Reading.{slot_at, older_at}
 use Rattle.ctr_page.specs.Columns.{kinds_width}
 use Rattle.ctr_pvs.specs.walk_TableOf.{TableOf}
 use Rattle.ctr_pvs.specs.walk_Tables.{kinds_said}
-use Rattle.ctr_pvs.specs.Reading.{kept_on_check, row_on_check}
+use Rattle.ctr_pvs.specs.Reading.{lies_check, kept_on_check, row_on_check}
 use Rattle.ctr_chain.specs.declared.seeking.VersionAt.{VersionAt}
 use Rattle.ctr_chain.specs.declared.seeking.VersionAt.TheVariants.{Head, Previous, Kept}
 use Rattle.ctr_chain.specs.Rows.{head_row, previous_row, kept_row, GivesRow}
@@ -19,6 +21,12 @@ abbrev pub place_of_version : Place → VersionAt → Place
 place_of_version row Head = row
 place_of_version row Previous = row
 place_of_version row (Kept p) = p
+
+-- A slot of a number lies on a page of a table, and is read; or it doesn't lie there.
+abbrev pub ReadAgain : TableOf → ℕ → List ℕ → Result RowSlot BadRecord → Type 0
+ReadAgain t number page (Ok s) = s ≡ slot_at (kinds_width (kinds_said t)) number page
+ReadAgain t number page (Err bad) =
+    lies_check (slot_size (kinds_width (kinds_said t))) number ≡ Err bad
 
 -- what is wrong with that slot or version entry on a page, by the table
 abbrev pub found_check : ℕ → TableOf → VersionAt → ℕ → List ℕ → Result ⊤ BadRecord

@@ -13,11 +13,10 @@ use Rattle.ctr_names.specs.area_Areas.{RowVersion, Slot, Area}
 use Rattle.ctr_pvs.specs.area_Reading.{area_of}
 use Rattle.ctr_names.specs.area_Chains.{chain_of}
 use Rattle.ctr_pvs.specs.area_Checked.{kinds_at}
-use Rattle.ctr_pvs.specs.Table.{told_of, owner_of, TableSaid}
+use Rattle.ctr_pvs.specs.Table.{told_of, owner_of}
 use Rattle.ctr_pvs.specs.Reading.{kept_at_check, row_check_at}
 use Rattle.ctr_chain.specs.Seeing.{first_version, first_xid}
 use Rattle.ctr_chain.specs.declared.looking.SlotLook.{SlotLook}
-use Rattle.ctr_chain.specs.declared.seeking.Searched.{Searched}
 use Rattle.ctr_chain.specs.declared.seeking.Found.{Found}
 use Rattle.ctr_chain.specs.declared.seeking.VersionAt.{VersionAt}
 use Rattle.ctr_chain.specs.declared.seeking.VersionAt.TheVariants.{Head, Previous, Kept}
@@ -80,12 +79,6 @@ abbrev pub sought_at : (ℕ → Bool) → ℕ → (ℕ → List ℕ) → Place �
 sought_at sought counted pages at =
     row_check_at counted pages at
     >>= λ _. sought_in sought (entries_on counted pages at.page) at.page ((area_of pages).slot at)
-
--- The search ends so, and the table is that of the row's page.
-abbrev pub SearchSaid : (ℕ → Bool) → ℕ → (ℕ → List ℕ) → Place → Result Searched BadChain → Type 0
-SearchSaid sought counted pages at (Ok s) =
-    (sought_at sought counted pages at ≡ Ok s.found) × TableSaid 1 counted pages at.page (Ok s.table)
-SearchSaid sought counted pages at (Err bad) = sought_at sought counted pages at ≡ Err bad
 
 -- ---- what is found
 

@@ -36,8 +36,8 @@ fn newest_found<D: Disk, O: Origin>(
     ensures leaves { LeavesPage O.first D.Disk store.old store.new (searched result) }
 {
     store.counts_pages();
-    let searched = seek(store, place, &Sought::Committed)?;
-    Ok(xid_found(searched.found))
+    let found = seek(store, place, &Sought::Committed)?;
+    Ok(xid_found(found))
 }
 
 /// Whose the newest committed version of the row at a place is, or none where no version is committed. The slot, its table and each

@@ -1,5 +1,5 @@
 // The search through the versions of a row.
-ghost use Rattle.std.specs.Prelude.{◌≡◌, ◌≢◌, ◌≤◌, ◌<◌, ◌*◌, false, IfOk};
+ghost use Rattle.std.specs.Prelude.{◌≡◌, ◌≢◌, ◌≤◌, ◌<◌, ◌*◌, false, Ok, IfOk};
 ghost use Rattle.ctr_pvs.specs.base_Base.{WhereSound};
 ghost use Rattle.ctr_pvs.specs.store_Parts.{MayCount};
 ghost use Rattle.ctr_pvs.specs.store_Store.{LeavesPage};
@@ -11,8 +11,8 @@ ghost use Rattle.ctr_pvs.specs.area_Checked.{kinds_at};
 ghost use Rattle.ctr_pvs.specs.walk_Tables.{kinds_said};
 ghost use Rattle.ctr_pvs.specs.walk_Damage.{searched};
 ghost use Rattle.ctr_chain.specs.Seeing.{sought_by};
-ghost use Rattle.ctr_chain.specs.Seeking.{sought_along, FoundIn, SearchSaid};
-ghost use Rattle.ctr_pvs.specs.Table.{TableFits};
+ghost use Rattle.ctr_chain.specs.Seeking.{sought_along, FoundIn, sought_at};
+ghost use Rattle.ctr_pvs.specs.Table.{TableSaid};
 
 use crate::looking::{SlotLook, look_at_entry, look_at_row};
 use ctr_disk::Disk;
@@ -139,11 +139,27 @@ fn seek_along<D: Disk, O: Origin>(
     Ok(None)
 }
 
-/// What the search through the versions of a row found: its table, and the version.
-#[derive(Clone, Copy, Debug, PartialEq, Eq)]
-pub(crate) struct Searched {
-    pub(crate) table: TableOf,
-    pub(crate) found: Option<Found>,
+/// The first version that is sought of the row at a place on a page whose table is this.
+pub(crate) fn seek_in<D: Disk, O: Origin>(
+    store: &mut Store<D, O>,
+    table: &TableOf,
+    place: Place,
+    sought: &Sought,
+) -> Result<Option<Found>, SearchFault>
+    requires going { store.old.stopped ≡ false }
+    requires counted { place.page < store.old.now.counted }
+    requires few { table.now.count ≤ 7 }
+    ensures ends { WhereSound O.first D.Disk (TableSaid 1 store.old.now.counted (pages_in store.old.now) place.page (Ok table.now)
+        → IfOk (searched result) (λ r. r ≡ sought_at (sought_by store.old.meta.tables sought.now) store.old.now.counted (pages_in store.old.now) place)) }
+    ensures leaves { LeavesPage O.first D.Disk store.old store.new (searched result) }
+{
+    store.counts_pages();
+    let counted = store.counted();
+    let look = look_at_row(store, table, counted, place)?;
+    if let Some(found) = found_in(sought, store.meta(), look) {
+        return Ok(found);
+    }
+    seek_along(store, table, counted, sought, look.older, place.page)
 }
 
 /// The first version that is sought of the row at a place.
@@ -151,20 +167,12 @@ pub(crate) fn seek<D: Disk, O: Origin>(
     store: &mut Store<D, O>,
     place: Place,
     sought: &Sought,
-) -> Result<Searched, SearchFault>
+) -> Result<Option<Found>, SearchFault>
     requires going { store.old.stopped ≡ false }
     requires counted { place.page < store.old.now.counted }
-    ensures said { WhereSound O.first D.Disk (IfOk (searched result) (SearchSaid (sought_by store.old.meta.tables sought.now) store.old.now.counted (pages_in store.old.now) place)) }
-    ensures fits { IfOk result (λ s. TableFits s.table) }
+    ensures ends { WhereSound O.first D.Disk (IfOk (searched result) (λ r. r ≡ sought_at (sought_by store.old.meta.tables sought.now) store.old.now.counted (pages_in store.old.now) place)) }
     ensures leaves { LeavesPage O.first D.Disk store.old store.new (searched result) }
 {
-    store.counts_pages();
-    let counted = store.counted();
     let table = table_on(store, PageKind::ROWS, place.page)?;
-    let look = look_at_row(store, &table, counted, place)?;
-    if let Some(found) = found_in(sought, store.meta(), look) {
-        return Ok(Searched { table, found });
-    }
-    let found = seek_along(store, &table, counted, sought, look.older, place.page)?;
-    Ok(Searched { table, found })
+    seek_in(store, &table, place, sought)
 }

@@ -34,10 +34,11 @@ key_of_slot s = if s.used == 1 then Some s.key else None
 abbrev pub key_there : Slot → Option ℤ
 key_there slot = if slot.used then Some slot.key else None
 
--- The slot of a number on a page of a table passes its check, and this is its key; or it doesn't.
+-- This is the key of the slot of a number on a page of a table, and where it has none, it passes its
+-- check; or it doesn't.
 abbrev pub KeySaid : ℕ → TableOf → ℕ → List ℕ → Result (Option ℤ) BadRecord → Type 0
 KeySaid counted t number page (Ok key) =
-    (row_on_check counted t.entry (kinds_said t) number page ≡ Ok tt)
+    (key ≡ None → row_on_check counted t.entry (kinds_said t) number page ≡ Ok tt)
     × (key ≡ key_of_slot (slot_at (kinds_width (kinds_said t)) number page))
 KeySaid counted t number page (Err bad) =
     row_on_check counted t.entry (kinds_said t) number page ≡ Err bad

@@ -20,7 +20,7 @@ use ctr_base::Origin;
 use ctr_disk::Disk;
 use ctr_page::Place;
 use ctr_undamaged::a_row_is_read_without_damage;
-use ctr_views::{ReadRefusal, visible};
+use ctr_views::{ReadRefusal, visible_of};
 use ctr_walk::{Store, TableOf};
 use std::alloc::Global;
 
@@ -50,7 +50,7 @@ fn gather<D: Disk, O: Origin>(
     let Some(key) = key else {
         return Ok(());
     };
-    let row = match visible(alloc, store, place, sight.snapshot, sight.me) {
+    let row = match visible_of(alloc, store, table, place, sight.snapshot, sight.me) {
         Err(refusal) => return Err(refusal),
         Ok(row) => row,
     };

@@ -1,10 +1,13 @@
 // Keys that stand in the slots of a page.
-ghost use Rattle.std.specs.Prelude.{◌≡◌, ◌≤◌, ◌<◌, ℕ, false, Ok, IfErr, IfOk, length};
+ghost use Rattle.std.specs.Prelude.{◌≡◌, ◌≤◌, ◌<◌, ℕ, false, Ok, Some, IfErr, IfOk, IfSome, length};
 ghost use Rattle.ctr_base.specs.declared.growing.TheConstants.{MOST_PAGES};
 ghost use Rattle.ctr_base.specs.Base.{WhereSound};
 ghost use Rattle.ctr_disk.specs.declared.fault.StoreFault.TheVariants.{Fault};
 ghost use Rattle.ctr_walk.specs.store_Store.{LeavesPage};
 ghost use Rattle.ctr_page.specs.declared.table.TheConstants.{PAGE_SIZE};
+ghost use Rattle.ctr_page.specs.Columns.{kinds_width as width_of_kinds};
+ghost use Rattle.ctr_page.specs.Reading.{slot_at};
+ghost use Rattle.ctr_walk.specs.Tables.{kinds_said};
 ghost use Rattle.ctr_area.specs.Chains.{slot_places};
 ghost use Rattle.ctr_area.specs.Sound.{IsAmong};
 ghost use Rattle.ctr_walk.specs.record_effects_States.{pages_in, area_in};
@@ -16,7 +19,7 @@ ghost use Rattle.ctr_reading.specs.Gathering.{key_of_slot, key_there, KeySaid};
 use ctr_base::Origin;
 use ctr_disk::{Disk, StoreFault};
 use ctr_model::Key;
-use ctr_page::{BadPage, Place, RowSlot, Use};
+use ctr_page::{BadPage, Place, RowSlot, Use, kinds_width, read_slot, room_for, slot_size};
 use ctr_views::row_in;
 use ctr_walk::{SearchFault, Store, TableOf, found_on, tell};
 
@@ -37,13 +40,30 @@ fn key_of_slot(slot: &RowSlot) -> Option<Key>
     Some(key_of(&slot.key))
 }
 
-/// The key of the slot of a number on a page of a table, or none where the slot is free. It is checked first.
+/// The key of the slot of a number on a page of a table, where it lies there and is used. Whoever reads its row checks it.
+fn used_key(table: &TableOf, number: u16, page: &[u8]) -> Option<Key>
+    requires few { table.now.count ≤ 7 }
+    requires whole { length page.now ≡ PAGE_SIZE }
+    ensures { IfSome result (λ key. Some key ≡ key_of_slot (slot_at (width_of_kinds (kinds_said table.now)) number page.now)) }
+{
+    let w = kinds_width(table.kinds());
+    if number as usize >= room_for(slot_size(w)) {
+        return None;
+    }
+    let slot = read_slot(page, w, number);
+    key_of_slot(&slot)
+}
+
+/// The key of the slot of a number on a page of a table, or none where the slot is free, which is checked.
 fn key_in(table: &TableOf, counted: u32, number: u16, page: &[u8]) -> Result<Option<Key>, BadPage>
     requires some { 0 < counted }
     requires few { table.now.count ≤ 7 }
     requires whole { length page.now ≡ PAGE_SIZE }
     ensures { KeySaid counted table.now number page.now result }
 {
+    if let Some(key) = used_key(table, number, page) {
+        return Ok(Some(key));
+    }
     let slot = row_in(table, counted, number, page)?;
     Ok(key_of_slot(&slot))
 }

@@ -7,9 +7,10 @@ mod names;
 mod rows;
 
 pub use changes::what_newest_answers_is_in_the_model;
-pub use ctr_catalog::{SchemaRefusal, changed, find, schema};
+pub use ctr_catalog::{ChangeAt, SchemaRefusal, changed, changed_from, find, schema};
 pub use ctr_chain::{
     ReadRefusal, newest, records_without_bytes_lie_as_their_actions, row_in, table_on, visible,
+    visible_of,
 };
 pub use ctr_paged::{
     an_action_gives_its_fact, an_action_meets_its_needs, ones_own_action_leaves_what_is_held,
