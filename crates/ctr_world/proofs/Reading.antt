@@ -1,0 +1,64 @@
+-- A World behind pages that the cleaner reads for a position of its pass.
+use Rattle.std.proofs.Common.{◌≡◌, ℕ, ◌+◌, ◌<◌, ◌≤◌, false, Bool, Ok, sym, ◌∙◌, subst, arith}
+use Rattle.std.specs.Prelude.{IsTrue, length}
+use Rattle.ctr_disk.specs.declared.disk.Disk.{Ghosts}
+use Rattle.ctr_disk.specs.Image.{Image}
+use Rattle.ctr_base.specs.Base.{IsSoundImage}
+use Rattle.ctr_redo.specs.States.{State}
+use Rattle.ctr_store.specs.Store.{View, LeavesFront, LeavesPage}
+use Rattle.ctr_pass.specs.Keeping.{KeepsPass}
+use Rattle.ctr_world.specs.declared.opening.Opening.{Ghosts as Opening}
+use Rattle.ctr_world.specs.declared.cleaning.TheConstants.{READS}
+use Rattle.ctr_world.specs.Cleaning.{ReadsOn}
+use Rattle.ctr_world.specs.Held.{Running}
+use Rattle.ctr_world.specs.World.{IsWorldReady, KeepsPassIn, Shows, led_to}
+use Rattle.ctr_world.proofs.Counting.{ReadingKeeps, shows_counted, world_counted}
+use Rattle.ctr_world.proofs.Quiet.{behind, ready_behind}
+
+module _ {D B : Type 0} (o : Opening B) (first : Image) (g : Ghosts D) (old : Running D) (b : View D) (r : ℕ) where
+  abbrev pub reading : Running D
+  reading = record old { store = b; read = r }
+
+  counts_ready : IsWorldReady o g (behind o first g old b) → IsWorldReady o g reading
+  counts_ready ready = record {
+    stand = ready.stand;
+    going = ready.going;
+    seats = ready.seats;
+    ordered = ready.ordered;
+    held = record { named = ready.held.named; only = ready.held.only };
+    count = ready.count;
+    lines = ready.lines;
+    place = ready.place;
+  }
+
+  counts_shows : (s : State) → Shows o first g s (behind o first g old b) → Shows o first g s reading
+  counts_shows s shows = record { opened = shows.opened; on = shows.on; mind = shows.mind; shows = shows.shows; undo = shows.undo; names = shows.names; numbered = shows.numbered; full = shows.full }
+
+  pub ready_reading : (x : Bool) → LeavesPage first g old.store b (Ok x) → IsWorldReady o g old → IsWorldReady o g reading
+  ready_reading x read ready = counts_ready (ready_behind o first g old b read.keeps read.going read.time.later ready)
+
+  pub shows_reading : (x : Bool) (s : State) → ReadingKeeps g → LeavesPage first g old.store b (Ok x) → (b.stopped ≡ false → LeavesFront g b b) → IsTrue g.tells → IsSoundImage first → Shows o first g s old → Shows o first g s reading
+  shows_reading x s law read rests told sound shows = counts_shows s
+      (shows_counted o first g old b (Ok x) s read (λ c opened h w world. world_counted first g old.store b (Ok x) law c opened h w told sound read rests tt world) told sound shows)
+
+  -- its pass is kept
+  pub pass_reading : (s : State) → b.now ≡ old.store.now → b.next ≡ old.store.next → KeepsPassIn o s old → KeepsPassIn o s reading
+  pass_reading s now next keeps =
+      subst (λ (q : State). KeepsPass old.pass (record { state = q; next = b.next; tape = old.sessions.tape.items; led = (led_to o s old.sessions.tape.items).state; undos = length old.undo.items })) (sym now)
+      (subst (λ n. KeepsPass old.pass (record { state = old.store.now; next = n; tape = old.sessions.tape.items; led = (led_to o s old.sessions.tape.items).state; undos = length old.undo.items })) (sym next) keeps)
+
+-- more pages were read for the position, and no more than a turn may read
+pub reads_more : {D : Type 0} (old new : Running D) (most : ℕ) → new.pass ≡ old.pass → new.store.next ≡ old.store.next → new.read ≡ old.read + most → 0 < most → (0 < most → old.read < old.store.now.counted) → most ≤ READS → ReadsOn old new
+reads_more old new most pass next is some few least = record {
+  pass = pass;
+  none = next;
+  few = few some;
+  more = subst (λ n. old.read < n) (sym is) (further old.read most some);
+  most = subst (λ n. n ≤ old.read + READS) (sym is) (within old.read most READS least);
+}
+  where
+    further : (n m : ℕ) → 0 < m → n < n + m
+    further n m some = omega (arith, some)
+
+    within : (n m k : ℕ) → m ≤ k → n + m ≤ n + k
+    within n m k least = omega (arith, least)
