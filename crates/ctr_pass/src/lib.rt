@@ -1,6 +1,6 @@
 //! The cleaner's pass in a World: where it is, and whether anything happened since it began.
 //!
-//! Nothing here takes memory.
+//! Nothing here takes memory, but for the places of keys that the store remembers.
 #![tactic(auto)]
 
 mod going;

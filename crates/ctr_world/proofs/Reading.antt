@@ -1,14 +1,16 @@
 -- A World behind pages that the cleaner reads for a position of its pass.
-use Rattle.std.proofs.Common.{◌≡◌, ℕ, ◌+◌, ◌<◌, ◌≤◌, false, Bool, Ok, sym, ◌∙◌, subst, arith}
+use Rattle.std.proofs.Common.{◌≡◌, ℕ, ◌+◌, ◌-◌, ◌^◌, ◌<◌, ◌≤◌, false, Bool, Ok, sym, ◌∙◌, subst, arith}
 use Rattle.std.specs.Prelude.{IsTrue, length}
 use Rattle.ctr_disk.specs.declared.disk.Disk.{Ghosts}
 use Rattle.ctr_disk.specs.Image.{Image}
 use Rattle.ctr_base.specs.Base.{IsSoundImage}
 use Rattle.ctr_redo.specs.States.{State}
-use Rattle.ctr_store.specs.Store.{View, LeavesFront, LeavesPage}
+use Rattle.ctr_store.specs.Store.{View, KeepsRoom, LeavesFront, LeavesPage}
+use Rattle.ctr_store.specs.declared.store.TheConstants.{TURN_BYTES}
 use Rattle.ctr_pass.specs.Keeping.{KeepsPass}
 use Rattle.ctr_world.specs.declared.opening.Opening.{Ghosts as Opening}
 use Rattle.ctr_world.specs.declared.cleaning.TheConstants.{READS}
+use Rattle.ctr_world.specs.declared.engine.Engine.{Engine}
 use Rattle.ctr_world.specs.Cleaning.{ReadsOn}
 use Rattle.ctr_world.specs.Held.{Running}
 use Rattle.ctr_world.specs.World.{IsWorldReady, KeepsPassIn, Shows, led_to}
@@ -62,3 +64,24 @@ reads_more old new most pass next is some few least = record {
 
     within : (n m k : ℕ) → m ≤ k → n + m ≤ n + k
     within n m k least = omega (arith, least)
+
+-- what logged none logged one at most
+pub log_none : (a b : ℕ) → b ≡ a → b ≤ a + 1
+log_none a b is = omega (arith, is)
+
+-- there is as much room behind pages that were read, and as many numbers are left
+pub room_left : {D : Type 0} (a b : View D) → KeepsRoom a b → (TURN_BYTES ≤ a.room) × (a.next < 2 ^ 63 - 1) → (TURN_BYTES ≤ b.room) × (b.next < 2 ^ 63 - 1)
+room_left a b keeps room = (more TURN_BYTES a.room b.room room.0 keeps.room, subst (λ n. n < 2 ^ 63 - 1) (sym keeps.next) room.1)
+  where
+    more : (t m n : ℕ) → t ≤ m → m ≤ n → t ≤ n
+    more t m n one then = omega (arith, one, then)
+
+-- what has another store, and has read other pages, has no other session or pass
+pub as_read : {D B : Type 0} (old new : Engine D B) → new ≡ record old { store = new.store; read = new.read }
+    → new ≡ record old { store = new.store; sessions = record old.sessions { txns = new.sessions.txns }; pass = new.pass; read = new.read }
+as_read old new is = is ∙ (λ i. record old { store = new.store; sessions = record old.sessions { txns = (sym is i).sessions.txns }; pass = (sym is i).pass; read = new.read })
+
+-- what has another pass has another count of pages, or the same
+pub as_unread : {D B : Type 0} (old new : Engine D B) → new ≡ record old { store = new.store; sessions = record old.sessions { txns = new.sessions.txns }; pass = new.pass }
+    → new ≡ record old { store = new.store; sessions = record old.sessions { txns = new.sessions.txns }; pass = new.pass; read = new.read }
+as_unread old new is = is ∙ (λ i. record old { store = new.store; sessions = record old.sessions { txns = new.sessions.txns }; pass = new.pass; read = (sym is i).read })
