@@ -1,5 +1,5 @@
 // Pages that are read before a turn of the cleaner, so that its row is found without a walk.
-ghost use Rattle.std.specs.Prelude.{◌≡◌, ◌<◌, ◌×◌, true, false, IfErr, IfOk, IfSome};
+ghost use Rattle.std.specs.Prelude.{◌≡◌, ◌<◌, true, false, IfErr, IfOk, IfSome};
 ghost use Rattle.ctr_disk.specs.declared.fault.StoreFault.TheVariants.{Fault};
 ghost use Rattle.ctr_walk.specs.base_Base.{WhereSound};
 ghost use Rattle.ctr_walk.specs.store_Store.{LeavesPage};
