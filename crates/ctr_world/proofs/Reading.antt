@@ -1,5 +1,5 @@
 -- A World behind pages that the cleaner reads for a position of its pass.
-use Rattle.std.proofs.Common.{◌≡◌, ℕ, ◌+◌, ◌-◌, ◌^◌, ◌<◌, ◌≤◌, false, Bool, Ok, sym, ◌∙◌, subst, arith}
+use Rattle.std.proofs.Common.{◌≡◌, ℕ, ◌+◌, ◌-◌, ◌^◌, ◌<◌, ◌≤◌, false, Bool, Ok, sym, ◌∙◌, ap, subst, arith}
 use Rattle.std.specs.Prelude.{IsTrue, length}
 use Rattle.ctr_disk.specs.declared.disk.Disk.{Ghosts}
 use Rattle.ctr_disk.specs.Image.{Image}
@@ -85,3 +85,13 @@ as_read old new is = is ∙ (λ i. record old { store = new.store; sessions = re
 pub as_unread : {D B : Type 0} (old new : Engine D B) → new ≡ record old { store = new.store; sessions = record old.sessions { txns = new.sessions.txns }; pass = new.pass }
     → new ≡ record old { store = new.store; sessions = record old.sessions { txns = new.sessions.txns }; pass = new.pass; read = new.read }
 as_unread old new is = is ∙ (λ i. record old { store = new.store; sessions = record old.sessions { txns = new.sessions.txns }; pass = new.pass; read = (sym is i).read })
+
+-- pages that are read behind steps leave the sessions, but for their transactions
+pub read_behind_steps : {D B : Type 0} (old mid new : Engine D B) → mid ≡ record old { store = mid.store; sessions = record old.sessions { txns = mid.sessions.txns }; pass = mid.pass; read = mid.read }
+    → new ≡ record mid { store = new.store; read = new.read } → new ≡ record old { store = new.store; sessions = record old.sessions { txns = new.sessions.txns }; pass = new.pass; read = new.read }
+read_behind_steps {D} {B} old mid new steps is = as_read mid new is
+    ∙ ap (λ (x : Engine D B). record x { store = new.store; sessions = record x.sessions { txns = new.sessions.txns }; pass = new.pass; read = new.read }) steps
+
+-- one page was read behind none
+pub one_read : (a b : ℕ) → a ≡ 0 → b ≡ a + 1 → b ≤ 1
+one_read a b none is = omega (arith, none, is)

@@ -43,22 +43,6 @@ pub returns-in-Err-clause-disk : goal.returns-in-Err-clause-disk
 returns-in-Err-clause-disk g c = disk_failed g.B.Origin.first g.D.Disk c.args.self.now.store c.read_ahead.new.self.store c.in-Err.fault c.in-Err.ensures.disk
 
 -- steps are taken
-clean_onward-requires-clause-unread : goal.clean_onward-requires-clause-unread
-clean_onward-requires-clause-unread g c = c.in-Ok-false.ensures.none c.in-Ok-false.field-0-test
-
-clean_onward-requires-clause-room : goal.clean_onward-requires-clause-room
-clean_onward-requires-clause-room g c = room_left c.args.self.now.store c.read_ahead.new.self.store c.in-Ok-false.ensures.page.keeps c.requires.room
-
-clean_onward-requires-clause-noted : goal.clean_onward-requires-clause-noted
-clean_onward-requires-clause-noted g c =
-    let e = c.in-Ok-false.ensures in
-    c.requires.noted ∙ sym (noted_read (running c.args.self.now) (running c.read_ahead.new.self) (λ i. (e.same i).pass) e.page.keeps.next (λ i. (e.same i).sessions))
-
-clean_onward-requires-clause-goes : goal.clean_onward-requires-clause-goes
-clean_onward-requires-clause-goes g c = λ idle.
-    let e = c.in-Ok-false.ensures in
-    c.requires.goes (sym (ap (λ (p : Pass). p.phase) (noted_read (running c.args.self.now) (running c.read_ahead.new.self) (λ i. (e.same i).pass) e.page.keeps.next (λ i. (e.same i).sessions))) ∙ idle)
-
 pub returns-in-Ok-false-clause-kept : goal.returns-in-Ok-false-clause-kept
 returns-in-Ok-false-clause-kept g c = λ s tells sound shows keeps.
     let both = c.in-Ok-false.ensures.kept s tells sound shows keeps in
