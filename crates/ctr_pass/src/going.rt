@@ -35,7 +35,7 @@ fn entry_of(at: Position) -> Position
 }
 
 /// Where a turn is taken: at the pass's position, where that is one still, else at the first one of its entry.
-fn place_for<D: Disk, O: Origin>(
+pub(crate) fn place_for<D: Disk, O: Origin>(
     store: &mut Store<D, O>,
     at: Position,
     stayed: bool,

@@ -1,12 +1,13 @@
 //! The cleaner's pass in a World: where it is, and whether anything happened since it began.
 //!
-//! Nothing here takes memory.
+//! Nothing here takes memory, but for the places of keys that the store remembers.
 #![tactic(auto)]
 
 mod going;
 mod keeping;
 mod laws;
 mod pass;
+mod reading;
 mod sparing;
 
 pub use ctr_cleaner::{
@@ -26,6 +27,7 @@ pub use keeping::{
 };
 pub use laws::{a_calm_tape_leaves_who_is_inside, the_cleaner_leaves_the_sessions};
 pub use pass::{Pass, Phase, keeps_room};
+pub use reading::read_for;
 pub use sparing::{
     nobody_inside_locks_nothing, room_for_the_cleaner_leaves_the_sessions,
     what_was_cleaned_leaves_the_sessions,

@@ -5,6 +5,7 @@ mod Keeping
 mod Passes
 mod Cleaned
 mod Onward
+mod Reading
 mod Roomy
 mod Bare
 mod Filling

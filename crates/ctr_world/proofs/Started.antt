@@ -60,7 +60,7 @@ holds_all names stuck is = subst (λ (l : List (List ℕ)). AllByRecursion (λ (
 module _ {D B : Type 0} (o : Opening B) (first : Image) (g : Ghosts D) (disk : D) (script : Script) (named : IsOpenedOn o first g disk script.lines) (runs : CanRun script.lines) (v b : View D) (begun : Begun) (is : IsBegun v script begun)
     (leaves : LeavesPage {T = ⊤} first g v b (Ok tt)) (room : 1 ≤ v.meta.items_room) (later : g.moment_of disk ≤ g.moment_of v.disk) where
   abbrev pub new : Running D
-  new = record { store = b; sessions = begun.sessions; undo = begun.undo; names = begun.names.items; size = begun.size; pass = begun.pass }
+  new = record { store = b; sessions = begun.sessions; undo = begun.undo; names = begun.names.items; size = begun.size; pass = begun.pass; read = 0 }
 
   start_later : o.start ≤ g.moment_of b.disk
   start_later = subst (λ n. n ≤ g.moment_of b.disk) (sym named.start) (after (g.moment_of disk) (g.moment_of v.disk) (g.moment_of b.disk) later leaves.time.later)

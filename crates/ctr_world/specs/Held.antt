@@ -9,7 +9,8 @@ use Rattle.ctr_world.specs.declared.engine.Engine.{Engine}
 use Rattle.ctr_world.specs.declared.parts.Parts.{Parts}
 
 -- The store, the sessions at the script's statements with the tape, what is left of undo with the
--- names of its tables, how large the undo of the start was, and the cleaner's pass.
+-- names of its tables, how large the undo of the start was, and the cleaner's pass, with how many
+-- pages were read for the position that it is at, since it came there.
 pub record Running (D : Type 0) : Type 0 where
   pub store : View D
   pub sessions : Sessions
@@ -17,6 +18,7 @@ pub record Running (D : Type 0) : Type 0 where
   pub names : List (List ℕ)
   pub size : ℕ
   pub pass : Pass
+  pub read : ℕ
 
 -- that, and why the World stopped, if it did
 pub record Held (D : Type 0) : Type 0 where
@@ -32,6 +34,7 @@ running e = record {
   names = e.names.items;
   size = e.size;
   pass = e.pass;
+  read = e.read;
 }
 
 -- a World, with why it stopped

@@ -1,14 +1,14 @@
 // The turns of the cleaner in a World.
-ghost use Rattle.std.specs.Prelude.{◌≡◌, ◌<◌, ◌-◌, ◌^◌, ℕ, true, IfOk, OnOk};
+ghost use Rattle.std.specs.Prelude.{◌≡◌, ◌<◌, ◌≤◌, ◌+◌, ◌-◌, ◌^◌, ℕ, true, false, IfOk, OnOk};
 ghost use Rattle.ctr_base.specs.Base.{WhereSound};
 ghost use Rattle.ctr_redo.specs.States.{State};
-ghost use Rattle.ctr_store.specs.Store.{HasTurnRoom};
+ghost use Rattle.ctr_store.specs.declared.store.TheConstants.{TURN_BYTES};
 ghost use Rattle.ctr_pass.specs.txn_Held.{txn_of};
 ghost use Rattle.ctr_pass.specs.session_world_Ready.{LeavesDisk};
 ghost use Rattle.ctr_pass.specs.exec_Sessions.{AreAnswers, OrFails};
 ghost use Rattle.ctr_world.specs.Held.{running};
 ghost use Rattle.ctr_world.specs.World.{IsWorldReady, KeepsPassIn, Shows};
-ghost use Rattle.ctr_world.specs.Cleaning.{CleansHere, CleansOnward, IsIdlePass, ReadsWhereNone, noted_pass};
+ghost use Rattle.ctr_world.specs.Cleaning.{CleansHere, CleansOnward, CleansOrReads, IsIdlePass, ReadsAlone, ReadsWhereNone, noted_pass};
 ghost use Rattle.ctr_world.specs.Turns.{AddsUnlessFails, CleanerEnds, LogsOneAtMost};
 
 use crate::engine::Engine;
@@ -19,7 +19,7 @@ use ctr_disk::{Disk, StoreFault};
 use ctr_pass::{
     MayEmpty, Pass, Sessions, a_pass_is_kept_beside_others, a_pass_is_kept_by_its_turn,
     an_idle_pass_is_kept, clean_from, keeps_room, nobody_inside_locks_nothing,
-    pages_that_are_read_keep_a_world, room_for_the_cleaner_leaves_the_sessions,
+    pages_that_are_read_keep_a_world, read_for, room_for_the_cleaner_leaves_the_sessions,
     what_was_cleaned_leaves_the_sessions,
 };
 use ctr_types::Turn;
@@ -28,6 +28,32 @@ use ctr_undo::{a_turn_of_undo_is_kept, names_of_what_is_left_stay};
 /// At how many positions of its pass a turn of the cleaner looks, at most: where versions are kept faster than lines are run, most entries that a pass comes by
 /// are of rows that it hasn't come to again.
 const POSITIONS: usize = 16;
+
+/// How many pages a turn of the cleaner reads, at most, for the row of the version entry that its pass is at, before it takes a step there: all of the row's bucket would be an eighth of
+/// its table.
+const READS: u32 = 16;
+
+/// How many pages a turn may read for a position, for which so many were read, in a store that counts so many: one more than those isn't read.
+fn reads_left(read: u32, counted: u32) -> u32
+    ensures few { 0 < result → read < counted }
+    ensures most { result ≤ READS }
+    ensures sum { read + result < 2 ^ 32 }
+{
+    if read >= counted {
+        return 0;
+    }
+    let left = counted - read;
+    if left < READS { left } else { READS }
+}
+
+/// How many pages were read for a position, behind so many more: where none are left a step is taken there, and they aren't counted any longer.
+fn read_behind(more: bool, read: u32, most: u32) -> u32
+    requires sum { read + most < 2 ^ 32 }
+    ensures more { more ≡ true → result ≡ read + most }
+    ensures none { more ≡ false → result ≡ 0 }
+{
+    if more { read + most } else { 0 }
+}
 
 /// What the cleaner may do in a table that is dead: a page may leave its chain while room is kept for an item of the cleaner's, and an entry is freed where
 /// nobody is in a transaction.
@@ -46,7 +72,7 @@ impl<D: Disk, B: Origin + Opening> Engine<D, B> {
     // A step in the cleaner's pass, which isn't idle once it has looked at what happened since its last one.
     fn clean_next(&mut self, noted: Pass) -> Result<(), StoreFault>
         requires ready { IsWorldReady B.Opening D.Disk (running self.old) }
-        requires room { HasTurnRoom self.old.store × (self.old.store.next < 2 ^ 63 - 1) }
+        requires room { (TURN_BYTES ≤ self.old.store.room) × (self.old.store.next < 2 ^ 63 - 1) }
         requires noted { noted ≡ noted_pass (running self.old) }
         requires goes { IsIdlePass (running self.old) → ⊥ }
         ensures ready { OnOk result (IsWorldReady B.Opening D.Disk (running self.new)) }
@@ -89,18 +115,46 @@ impl<D: Disk, B: Origin + Opening> Engine<D, B> {
         }
     }
 
-    // A step in the cleaner's pass, and from there along version entries until one logged a record, there is no room, or so many were taken as a turn may take.
+    // Pages are read for the row of the version entry that the pass is at, so many at most. Where more may be left they are counted; else a step is taken there.
+    fn read_ahead(&mut self, most: u32) -> Result<bool, StoreFault>
+        requires ready { IsWorldReady B.Opening D.Disk (running self.old) }
+        requires sum { self.old.read + most < 2 ^ 32 }
+        ensures ready { OnOk result (IsWorldReady B.Opening D.Disk (running self.new)) }
+        ensures kept { (s : State) → WhereSound B.first D.Disk (Shows B.Opening B.first D.Disk s (running self.old) → KeepsPassIn B.Opening s (running self.old)
+            → OrFails (Shows B.Opening B.first D.Disk s (running self.new) × KeepsPassIn B.Opening s (running self.new)) result) }
+        ensures more { IfOk result (λ more. more ≡ true → (0 < most) × (self.new.read ≡ self.old.read + most)) }
+        ensures none { IfOk result (λ more. more ≡ false → self.new.read ≡ 0) }
+        ensures page { OnOk result (ReadsAlone B.first D.Disk self.old.store self.new.store) }
+        ensures same { self.new ≡ record self.old { store = self.new.store; read = self.new.read } }
+        ensures disk { LeavesDisk B.first D.Disk self.old.store self.new.store result }
+    {
+        pages_that_are_read_keep_a_world::<D>();
+        let low = self.sessions.txns.low_mark(self.store.meta());
+        let stayed = self.pass.next == self.store.next();
+        let read = read_for(&mut self.store, low, self.pass.at, stayed, most);
+        match read {
+            Ok(more) => {
+                self.store.rests();
+                self.read = read_behind(more, self.read, most);
+                Ok(more)
+            }
+            Err(fault) => Err(fault),
+        }
+    }
+
+    // A step in the cleaner's pass, and from there along version entries until one logged a record, there is no room, a page is to be read first, or so many were taken as a turn may take.
     fn clean_onward(&mut self, noted: Pass) -> Result<(), StoreFault>
         requires ready { IsWorldReady B.Opening D.Disk (running self.old) }
-        requires room { HasTurnRoom self.old.store × (self.old.store.next < 2 ^ 63 - 1) }
+        requires unread { self.old.read ≡ 0 }
+        requires room { (TURN_BYTES ≤ self.old.store.room) × (self.old.store.next < 2 ^ 63 - 1) }
         requires noted { noted ≡ noted_pass (running self.old) }
         requires goes { IsIdlePass (running self.old) → ⊥ }
         ensures ready { OnOk result (IsWorldReady B.Opening D.Disk (running self.new)) }
         ensures kept { (s : State) → WhereSound B.first D.Disk (Shows B.Opening B.first D.Disk s (running self.old) → KeepsPassIn B.Opening s (running self.old)
             → OrFails (Shows B.Opening B.first D.Disk s (running self.new) × KeepsPassIn B.Opening s (running self.new)) result) }
-        ensures cleans { OnOk result (CleansOnward (running self.old) (running self.new)) }
+        ensures cleans { OnOk result (CleansOnward (running self.old) (running self.new) × (self.new.read ≤ 1)) }
         ensures one { OnOk result (LogsOneAtMost (running self.old) (running self.new)) }
-        ensures same { self.new ≡ record self.old { store = self.new.store; sessions = record self.old.sessions { txns = self.new.sessions.txns }; pass = self.new.pass } }
+        ensures same { self.new ≡ record self.old { store = self.new.store; sessions = record self.old.sessions { txns = self.new.sessions.txns }; pass = self.new.pass; read = self.new.read } }
         ensures disk { LeavesDisk B.first D.Disk self.old.store self.new.store result }
     {
         let next = self.store.next();
@@ -119,6 +173,11 @@ impl<D: Disk, B: Origin + Opening> Engine<D, B> {
             if noted.is_idle() {
                 break;
             }
+            match self.read_ahead(1) {
+                Ok(false) => {}
+                Ok(true) => return Ok(()),
+                Err(fault) => return Err(fault),
+            }
             match self.clean_next(noted) {
                 Ok(()) => {}
                 Err(fault) => return Err(fault),
@@ -127,8 +186,30 @@ impl<D: Disk, B: Origin + Opening> Engine<D, B> {
         Ok(())
     }
 
-    /// A turn of the cleaner: it is idle where its pass is; else a turn for room, where the store has none, or steps in its pass until one logged a record. All commits that are
-    /// durable then are answered.
+    // Pages are read for the position that the cleaner's pass is at, or steps are taken from there.
+    fn read_or_clean(&mut self, noted: Pass) -> Result<(), StoreFault>
+        requires ready { IsWorldReady B.Opening D.Disk (running self.old) }
+        requires room { (TURN_BYTES ≤ self.old.store.room) × (self.old.store.next < 2 ^ 63 - 1) }
+        requires noted { noted ≡ noted_pass (running self.old) }
+        requires goes { IsIdlePass (running self.old) → ⊥ }
+        ensures ready { OnOk result (IsWorldReady B.Opening D.Disk (running self.new)) }
+        ensures kept { (s : State) → WhereSound B.first D.Disk (Shows B.Opening B.first D.Disk s (running self.old) → KeepsPassIn B.Opening s (running self.old)
+            → OrFails (Shows B.Opening B.first D.Disk s (running self.new) × KeepsPassIn B.Opening s (running self.new)) result) }
+        ensures cleans { OnOk result (CleansOrReads (running self.old) (running self.new)) }
+        ensures one { OnOk result (LogsOneAtMost (running self.old) (running self.new)) }
+        ensures same { self.new ≡ record self.old { store = self.new.store; sessions = record self.old.sessions { txns = self.new.sessions.txns }; pass = self.new.pass; read = self.new.read } }
+        ensures disk { LeavesDisk B.first D.Disk self.old.store self.new.store result }
+    {
+        let most = reads_left(self.read, self.store.counted());
+        match self.read_ahead(most) {
+            Err(fault) => Err(fault),
+            Ok(true) => Ok(()),
+            Ok(false) => self.clean_onward(noted),
+        }
+    }
+
+    /// A turn of the cleaner: it is idle where its pass is; else a turn for room, where the store has none; or pages are read for the row that its pass has come to; or steps in its pass
+    /// until one logged a record. All commits that are durable then are answered.
     pub(crate) fn clean(&mut self) -> Result<Turn, StoreFault>
         requires ready { IsWorldReady B.Opening D.Disk (running self.old) }
         requires number { self.old.store.next < 2 ^ 63 - 1 }
@@ -138,7 +219,7 @@ impl<D: Disk, B: Origin + Opening> Engine<D, B> {
         ensures adds { AddsUnlessFails AreAnswers (D.moment_of self.new.store.disk) (running self.old) (running self.new) result }
         ensures went { IfOk result (CleanerEnds (running self.old) (running self.new)) }
         ensures one { OnOk result (LogsOneAtMost (running self.old) (running self.new)) }
-        ensures same { self.new ≡ record self.old { store = self.new.store; sessions = self.new.sessions; pass = self.new.pass } }
+        ensures same { self.new ≡ record self.old { store = self.new.store; sessions = self.new.sessions; pass = self.new.pass; read = self.new.read } }
         ensures disk { LeavesDisk B.first D.Disk self.old.store self.new.store result }
     {
         a_pass_is_kept_beside_others();
@@ -155,7 +236,7 @@ impl<D: Disk, B: Origin + Opening> Engine<D, B> {
                 Err(fault) => Err(fault),
             };
         }
-        match self.clean_onward(noted) {
+        match self.read_or_clean(noted) {
             Ok(()) => {
                 self.answer();
                 Ok(Turn::Went)

@@ -55,6 +55,8 @@ pub(crate) struct Engine<D: Disk, B: Origin> {
     pub(crate) size: usize,
     /// The cleaner's pass.
     pub(crate) pass: Pass,
+    /// How many pages were read for the position that it is at, since it came there.
+    pub(crate) read: u32,
 }
 
 impl<D: Disk, B: Origin + Opening> Engine<D, B> {
@@ -154,6 +156,7 @@ impl<D: Disk, B: Origin + Opening> Engine<D, B> {
         ensures left { (self.new.size ≡ self.old.size) × (left_in self.new.undo ≤ left_in self.old.undo) }
         ensures logs { OnOk result (self.new.store.next ≡ self.old.store.next + 1) }
         ensures pass { self.new.pass ≡ self.old.pass }
+        ensures read { self.new.read ≡ self.old.read }
         ensures disk { LeavesDisk B.first D.Disk self.old.store self.new.store result }
     {
         a_name_is_released_with_its_last_item();

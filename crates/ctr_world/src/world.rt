@@ -119,6 +119,7 @@ impl<D: Disk, B: Origin + Opening> World<D, B> {
                             names: begun.names,
                             size: begun.size,
                             pass: begun.pass,
+                            read: 0,
                         },
                         stop: None,
                     },
@@ -214,6 +215,7 @@ impl<D: Disk, B: Origin + Opening> World<D, B> {
             names: _,
             size,
             pass: _,
+            read: _,
         } = engine;
         let undone = size - undo.len();
         let Sessions { tape, .. } = sessions;

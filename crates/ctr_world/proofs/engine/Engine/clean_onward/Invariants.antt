@@ -18,6 +18,7 @@ invariant-loop-taken g l =
     → Shows g.B.Opening g.B.Origin.first g.D.Disk s now × KeepsPassIn g.B.Opening s now)
     × ((n : ℕ) × (n < l.taken) × CleansAlong n old now)
     × (now.store.next ≤ old.store.next + 1)
-    × (l.self ≡ record l.fn.self { store = l.self.store; sessions = record l.fn.self.sessions { txns = l.self.sessions.txns }; pass = l.self.pass })
+    × (l.self ≡ record l.fn.self { store = l.self.store; sessions = record l.fn.self.sessions { txns = l.self.sessions.txns }; pass = l.self.pass; read = l.self.read })
     × LeavesDisk {T = ⊤} g.B.Origin.first g.D.Disk old.store now.store (Ok tt)
     × (now.store.next ≡ old.store.next → LeavesPage {T = ⊤} g.B.Origin.first g.D.Disk old.store now.store (Ok tt))
+    × (now.read ≡ 0)

@@ -11,7 +11,7 @@ returns-in-Ok-clause-kept g c =
     let e = c.in-Ok.ensures in
     let p = held c.args.self.now in
     kept_on g.B.Opening g.B.Origin.first g.D.Disk p (running c.serve.new.self) c.requires.kept c.requires.going e.adds.script (λ i. (e.same i).size) e.disk.later e.ready
-    (λ s tells sound shows pass. (e.shows s tells sound shows, pass_beside g.B.Opening s p.running (running c.serve.new.self) c.a_pass_is_kept_beside_others.ensures (e.disk.goes tells sound) (record { pass = λ i. (e.same i).pass; undo = inl (λ i. (e.same i).undo) }) e.adds.entries e.adds.tape pass))
+    (λ s tells sound shows pass. (e.shows s tells sound shows, pass_beside g.B.Opening s p.running (running c.serve.new.self) c.a_pass_is_kept_beside_others.ensures (e.disk.goes tells sound) (record { pass = λ i. (e.same i).pass; read = λ i. (e.same i).read; undo = inl (λ i. (e.same i).undo) }) e.adds.entries e.adds.tape pass))
     (none_more tt (g.D.Disk.faults_of p.running.store.disk) (g.D.Disk.faults_of c.serve.new.self.store.disk) e.disk.faults)
 
 pub returns-in-Err-clause-kept : goal.returns-in-Err-clause-kept

@@ -11,7 +11,7 @@ returns-in-Ok-clause-kept g c =
     let e = c.in-Ok.ensures in
     let p = held c.args.self.now in
     kept_on g.B.Opening g.B.Origin.first g.D.Disk p (running c.settle.new.self) c.requires.kept (none_is p.stop c.if-is_some.ensures) (λ i. (e.same i).sessions.script) (λ i. (e.same i).size) e.disk.later e.ready
-    (λ s tells sound shows pass. (e.shows s tells sound shows, pass_still g.B.Opening s p.running (running c.settle.new.self) c.a_pass_is_kept_beside_others.ensures (e.disk.goes tells sound) (record { pass = λ i. (e.same i).pass; undo = inl (λ i. (e.same i).undo) }) (λ i. (e.same i).sessions.tape.items) pass))
+    (λ s tells sound shows pass. (e.shows s tells sound shows, pass_still g.B.Opening s p.running (running c.settle.new.self) c.a_pass_is_kept_beside_others.ensures (e.disk.goes tells sound) (record { pass = λ i. (e.same i).pass; read = λ i. (e.same i).read; undo = inl (λ i. (e.same i).undo) }) (λ i. (e.same i).sessions.tape.items) pass))
     (none_more tt (g.D.Disk.faults_of p.running.store.disk) (g.D.Disk.faults_of c.settle.new.self.store.disk) e.disk.faults)
 
 pub returns-in-Err-clause-kept : goal.returns-in-Err-clause-kept
