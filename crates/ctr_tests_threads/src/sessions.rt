@@ -79,33 +79,32 @@ fn made(alloc: Global, number: u64) -> Result<Option<Vec<u8>>, OutOfMemory> {
     script.transpose()
 }
 
-// Plays the script of a number on threads, and judges it; none where the script isn't of eight sessions.
+// Plays a script on threads, and judges it.
 fn meet<R: Threads + Wait + Sync>(
     rt: &R,
     alloc: Global,
     base: &Base,
-    number: u64,
+    script: Vec<u8>,
     met: &mut Met,
-) -> Result<Option<Verdict>, OutOfMemory> {
-    let Some(script) = made(alloc, number)? else {
-        return Ok(None);
-    };
+) -> Result<Verdict, OutOfMemory> {
     let gate = Crowd::new();
     let verdict = met_on_threads(rt, alloc, base, &script, &gate, met);
     drop(script);
-    Ok(Some(verdict?))
+    verdict
 }
 
-// What came of fifty scripts.
+// What came of the scripts of a test.
 #[derive(Clone, Copy, Debug)]
-struct Fifty {
+struct Played {
     met: Met,
+    // Scripts of eight sessions that were come by, and those of them that were played.
+    come: u64,
     scripts: u64,
     // The last script that was played wrongly.
     wrong: Option<(u64, Verdict)>,
 }
 
-impl Fifty {
+impl Played {
     fn count(&mut self, number: u64, verdict: Verdict) {
         self.scripts = self.scripts.saturating_add(1);
         if verdict != Verdict::Well {
@@ -113,8 +112,15 @@ impl Fifty {
         }
     }
 
+    // Whether the next script of eight sessions is one of the half that is played: the first, the third and so on, or the others.
+    fn is_due(&mut self, first: bool) -> bool {
+        let is_first = self.come % 2 == 0;
+        self.come = self.come.saturating_add(1);
+        is_first == first
+    }
+
     fn is_right(self) -> bool {
-        self.scripts == 50 && self.wrong.is_none() && self.met.has_all(25)
+        self.scripts == 25 && self.wrong.is_none() && self.met.has_all(12)
     }
 }
 
@@ -123,57 +129,94 @@ fn meet_all<R: Threads + Wait + Sync>(
     alloc: Global,
     base: &Base,
     (from, to): (u64, u64),
-) -> Result<Fifty, OutOfMemory> {
-    let mut fifty = Fifty {
+    first: bool,
+) -> Result<Played, OutOfMemory> {
+    let mut played = Played {
         met: Met::new(),
+        come: 0,
         scripts: 0,
         wrong: None,
     };
     for number in from..=to {
-        if let Some(verdict) = meet(rt, alloc, base, number, &mut fifty.met)? {
-            fifty.count(number, verdict);
+        let Some(script) = made(alloc, number)? else {
+            continue;
+        };
+        if !played.is_due(first) {
+            drop(script);
+            continue;
         }
+        let verdict = meet(rt, alloc, base, script, &mut played.met)?;
+        played.count(number, verdict);
     }
-    Ok(fifty)
+    Ok(played)
 }
 
-// Plays the scripts of eight sessions among those of these numbers.
-fn meet_fifty<R: Threads + Wait + Sync>(
+// Plays half of the fifty scripts of eight sessions among those of these numbers.
+fn meet_half<R: Threads + Wait + Sync>(
     rt: &R,
     alloc: Global,
     numbers: (u64, u64),
-) -> Result<Fifty, OutOfMemory> {
+    first: bool,
+) -> Result<Played, OutOfMemory> {
     let base = prepared(alloc, BEFORE)?;
-    let fifty = meet_all(rt, alloc, &base, numbers);
+    let played = meet_all(rt, alloc, &base, numbers, first);
     drop(base);
-    fifty
+    played
 }
 
 #[test]
-fn fifty_scripts_of_eight_sessions_are_right(rt: HostRuntime) -> Result<(), Fail> {
-    let fifty = meet_fifty(&rt, rt.alloc(), (1, 346))?;
-    assert!(rt; fifty.is_right(), "{fifty:?}");
+fn scripts_of_eight_sessions_are_right_1(rt: HostRuntime) -> Result<(), Fail> {
+    let played = meet_half(&rt, rt.alloc(), (1, 346), true)?;
+    assert!(rt; played.is_right(), "{played:?}");
     Ok(())
 }
 
 #[test]
-fn the_second_fifty_are_right(rt: HostRuntime) -> Result<(), Fail> {
-    let fifty = meet_fifty(&rt, rt.alloc(), (347, 739))?;
-    assert!(rt; fifty.is_right(), "{fifty:?}");
+fn scripts_of_eight_sessions_are_right_2(rt: HostRuntime) -> Result<(), Fail> {
+    let played = meet_half(&rt, rt.alloc(), (1, 346), false)?;
+    assert!(rt; played.is_right(), "{played:?}");
     Ok(())
 }
 
 #[test]
-fn the_third_fifty_are_right(rt: HostRuntime) -> Result<(), Fail> {
-    let fifty = meet_fifty(&rt, rt.alloc(), (740, 1224))?;
-    assert!(rt; fifty.is_right(), "{fifty:?}");
+fn scripts_of_eight_sessions_are_right_3(rt: HostRuntime) -> Result<(), Fail> {
+    let played = meet_half(&rt, rt.alloc(), (347, 739), true)?;
+    assert!(rt; played.is_right(), "{played:?}");
     Ok(())
 }
 
 #[test]
-fn the_fourth_fifty_are_right(rt: HostRuntime) -> Result<(), Fail> {
-    let fifty = meet_fifty(&rt, rt.alloc(), (1225, 1611))?;
-    assert!(rt; fifty.is_right(), "{fifty:?}");
+fn scripts_of_eight_sessions_are_right_4(rt: HostRuntime) -> Result<(), Fail> {
+    let played = meet_half(&rt, rt.alloc(), (347, 739), false)?;
+    assert!(rt; played.is_right(), "{played:?}");
+    Ok(())
+}
+
+#[test]
+fn scripts_of_eight_sessions_are_right_5(rt: HostRuntime) -> Result<(), Fail> {
+    let played = meet_half(&rt, rt.alloc(), (740, 1224), true)?;
+    assert!(rt; played.is_right(), "{played:?}");
+    Ok(())
+}
+
+#[test]
+fn scripts_of_eight_sessions_are_right_6(rt: HostRuntime) -> Result<(), Fail> {
+    let played = meet_half(&rt, rt.alloc(), (740, 1224), false)?;
+    assert!(rt; played.is_right(), "{played:?}");
+    Ok(())
+}
+
+#[test]
+fn scripts_of_eight_sessions_are_right_7(rt: HostRuntime) -> Result<(), Fail> {
+    let played = meet_half(&rt, rt.alloc(), (1225, 1611), true)?;
+    assert!(rt; played.is_right(), "{played:?}");
+    Ok(())
+}
+
+#[test]
+fn scripts_of_eight_sessions_are_right_8(rt: HostRuntime) -> Result<(), Fail> {
+    let played = meet_half(&rt, rt.alloc(), (1225, 1611), false)?;
+    assert!(rt; played.is_right(), "{played:?}");
     Ok(())
 }
 
