@@ -39,8 +39,8 @@ CleansAlong (suc n) old new = (mid : Running _) × CleansAlong n old mid
 abbrev pub CleansOnward : {D : Type 0} → Running D → Running D → Type 0
 CleansOnward old new = (n : ℕ) × (n < POSITIONS) × CleansAlong n old new
 
--- Pages were read for the row of the version entry that the pass is at, and that is all: the pass is
--- as it was, and no record was logged. Fewer had been read for it than are counted, so there are
+-- Pages were read for the row of the version entry that the pass is at, and that is all: the pass
+-- is as it was, and no record was logged. Fewer had been read for it than are counted, so there are
 -- no more turns in a row that only read, at one position, than pages.
 pub record ReadsOn {D : Type 0} (old new : Running D) : Type 0 where
   pub pass : new.pass ≡ old.pass
@@ -49,8 +49,8 @@ pub record ReadsOn {D : Type 0} (old new : Running D) : Type 0 where
   pub more : old.read < new.read
   pub most : new.read ≤ old.read + READS
 
--- Steps were taken in the pass, and behind them a page at most was read for where it has come to; or
--- pages were read, and no step was taken.
+-- Steps were taken in the pass, and behind them a page at most was read for where it has come to;
+-- or pages were read, and no step was taken.
 abbrev pub CleansOrReads : {D : Type 0} → Running D → Running D → Type 0
 CleansOrReads old new = (CleansOnward old new × (new.read ≤ 1)) ⊎ ReadsOn old new
 

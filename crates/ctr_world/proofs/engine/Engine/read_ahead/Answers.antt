@@ -7,15 +7,15 @@ use Rattle.ctr_world.proofs.Reading.{pass_reading, ready_reading, shows_reading}
 use Rattle.ctr_world.proofs.engine.Engine.read_ahead.Goals as goal
 
 pub returns-in-Ok-clause-ready : goal.returns-in-Ok-clause-ready
-returns-in-Ok-clause-ready g c = ready_reading g.B.Opening g.B.Origin.first g.D.Disk (running c.args.self.now) c.read_for-read.new.store c.read_behind.result c.in-Ok.more c.in-Ok.ensures.leaves c.requires.ready
+returns-in-Ok-clause-ready g c = ready_reading g.B.Opening g.B.Origin.first g.D.Disk (running c.args.self.now) c.read_for-read.new.store c.read_behind-self.result c.in-Ok.more c.in-Ok.ensures.leaves c.requires.ready
 
 pub returns-in-Ok-clause-kept : goal.returns-in-Ok-clause-kept
 returns-in-Ok-clause-kept g c = λ s tells sound shows keeps.
     let w = running c.args.self.now in
     let b = c.read_for-read.new.store in
     let read = c.in-Ok.ensures.leaves in (
-      shows_reading g.B.Opening g.B.Origin.first g.D.Disk w b c.read_behind.result c.in-Ok.more s c.pages_that_are_read_keep_a_world.ensures read (c.rests.ensures tells sound) tells sound shows,
-      pass_reading g.B.Opening g.B.Origin.first g.D.Disk w b c.read_behind.result s (read.logs tells sound).now read.keeps.next keeps,
+      shows_reading g.B.Opening g.B.Origin.first g.D.Disk w b c.read_behind-self.result c.in-Ok.more s c.pages_that_are_read_keep_a_world.ensures read (c.rests.ensures tells sound) tells sound shows,
+      pass_reading g.B.Opening g.B.Origin.first g.D.Disk w b c.read_behind-self.result s (read.logs tells sound).now read.keeps.next keeps,
     )
 
 pub returns-in-Err-clause-kept : goal.returns-in-Err-clause-kept
