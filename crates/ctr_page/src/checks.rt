@@ -299,11 +299,14 @@ fn check_firsts(count: u8, counted: u32, at: usize, page: &[u8]) -> Result<(), B
     requires inside { at + 4 * count ≤ length page.now }
     ensures { result ≡ firsts_check count counted at page.now }
 {
-    if count == 0 {
-        return Ok(());
+    let mut left = count;
+    let mut next = at;
+    while left != 0 {
+        check_counted(counted, next, page)?;
+        left -= 1;
+        next += 4;
     }
-    check_counted(counted, at, page)?;
-    check_firsts(count - 1, counted, at + 4, page)
+    Ok(())
 }
 
 #[tactic(auto, unfolding(crate::specs::Damage::column_check))]

@@ -14,15 +14,19 @@ use ctr_rec::{OutOfMemory, Overlay, PageNo};
 use std::alloc::Global;
 use std::marker::Model;
 
+// How many places of pages are remembered: a statement reads a page of the catalog, some pages of the bucket it is at and of its
+// table's versions again and again.
+const RECENT: usize = 64;
+
 /// Frames by their pages. Their memory is taken at once, and a place isn't touched before a frame stands there. One is found in steps
-/// that grow with the logarithm of their number, and the one that was sought last in one step.
+/// that grow with the logarithm of their number, and one that was sought lately in one step.
 #[derive(Drop)]
 pub struct Frames {
     // one behind another, in no order
     items: Vec<Frame>,
     places: Places,
-    // the place of the page that was sought last, or added
-    last: usize,
+    // the places of pages that were sought lately or added, by their numbers: one is looked at before it is believed
+    recent: [usize; RECENT],
 }
 
 impl Model for Frames {
@@ -56,7 +60,7 @@ impl Frames {
         Ok(Frames {
             items,
             places,
-            last: 0,
+            recent: [0; RECENT],
         })
     }
 
@@ -74,13 +78,14 @@ impl Frames {
         self.items.len() == self.items.capacity()
     }
 
-    // Where a page's frame stands. The place where one was sought last is looked at first.
+    // Where a page's frame stands. The place where one was sought lately is looked at first.
     fn place(&self, page: PageNo) -> Option<usize>
         ensures there { IfSome result (λ at. (at < length self.now.frames) × ((d : Framed) → (slice_index_or self.now.frames at d).page ≡ page)) }
         ensures none { IfNone result (frame_of page self.now.frames ≡ None) }
     {
-        if self.last < self.items.len() && self.items[self.last].page == page {
-            return Some(self.last);
+        let at = self.recent[page as usize % RECENT];
+        if at < self.items.len() && self.items[at].page == page {
+            return Some(at);
         }
         self.places.of(page)
     }
@@ -92,7 +97,7 @@ impl Frames {
     {
         match self.place(page) {
             Some(at) => {
-                self.last = at;
+                self.recent[page as usize % RECENT] = at;
                 true
             }
             None => false,
@@ -147,7 +152,7 @@ impl Frames {
             body,
         });
         self.places.add(page, at);
-        self.last = at;
+        self.recent[page as usize % RECENT] = at;
     }
 
     /// Takes a page's frame out, of which nothing is to be saved.
