@@ -54,4 +54,5 @@ pub record ArePassed (counted : ℕ) (pages : ℕ → List ℕ) : Type 0 where
   pub versions : (e : ℕ)
       → ChainPasses counted pages (Versions e) ((area_of pages).firsts e).versions
   pub slots : (e : ℕ) → AllByRecursion (SlotPasses counted pages e) (slot_places (area_of pages) e)
-  pub older : (e : ℕ) → AllByRecursion (OlderPasses counted pages e) (older_places (area_of pages) e)
+  pub older : (e : ℕ)
+      → AllByRecursion (OlderPasses counted pages e) (older_places (area_of pages) e)

@@ -48,9 +48,11 @@ pub record MaySave {D O : Type 0} (g : Ghosts D) (b : Base D O) (p since : ℕ) 
   pub above : (home_of g b p).lsn < v.lsn
   pub low : v.lsn < next_of (now_of g b)
   pub is : (v ≡ overlaid p b.root.first (now_of g b).records (home_of g b p))
-      ⊎ (overlaid p b.root.first (stored_of g b).records v ≡ overlaid p b.root.first (stored_of g b).records (home_of g b p))
+      ⊎ (overlaid p b.root.first (stored_of g b).records v
+          ≡ overlaid p b.root.first (stored_of g b).records (home_of g b p))
   pub early : since < next_of (now_of g b)
-  pub behind : overlaid p b.root.first (take (since - b.root.first) (now_of g b).records) (home_of g b p)
+  pub behind : overlaid p b.root.first (take (since - b.root.first) (now_of g b).records)
+      (home_of g b p)
       ≡ home_of g b p
 
 -- Nothing is pending on the disk, which is sound; the log goes on behind what it holds, and the
@@ -172,7 +174,8 @@ pub record GoesHome {D O : Type 0} (first : Image) (g : Ghosts D) (b : Base D O)
 
 -- What the reading of a page at home found: that a counted page has its number there, or that it
 -- has another one.
-abbrev pub FindsNumber : {D O : Type 0} → Image → Ghosts D → Base D O → ℕ → Result ⊤ StoreFault → Type 0
+abbrev pub FindsNumber : {D O : Type 0} → Image → Ghosts D → Base D O → ℕ → Result ⊤ StoreFault
+    → Type 0
 FindsNumber first g b p (Ok t) = p < b.root.pages
     → (v : BlockValue) → value_of (Page p) (g.reads b.disk) ≡ Some v → v.number ≡ p
 FindsNumber first g b p (Err e) =

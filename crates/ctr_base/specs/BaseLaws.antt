@@ -33,20 +33,29 @@ use Rattle.ctr_base.specs.Base.{stored_of, waiting_of, now_of, home_of, MaySave,
 
 take_split : {A : Type 0} (j k : ℕ) (l : List A) → take j l ++ take k (drop j l) ≡ take (j + k) l
 take_split zero k l = let n : k ≡ 0 + k = omega arith in ap (λ (m : ℕ). take m l) n
-take_split {A} (suc j) k [] = let n : suc (j + k) ≡ suc j + k = omega arith in ap (λ (m : List A). m) (take-nil k) ∙ sym (take-nil (suc j + k))
-take_split {A} (suc j) k (x ∷ l) = let n : suc (j + k) ≡ suc j + k = omega arith in ap (λ (t : List A). x ∷ t) (take_split j k l) ∙ ap (λ (m : ℕ). take m (x ∷ l)) n
+take_split {A} (suc j) k [] =
+    let n : suc (j + k) ≡ suc j + k = omega arith in
+    ap (λ (m : List A). m) (take-nil k) ∙ sym (take-nil (suc j + k))
+take_split {A} (suc j) k (x ∷ l) =
+    let n : suc (j + k) ≡ suc j + k = omega arith in
+    ap (λ (t : List A). x ∷ t) (take_split j k l) ∙ ap (λ (m : ℕ). take m (x ∷ l)) n
 
-three : {A B C E : Type 0} (f : A → B → C → E) {a a' : A} {b b' : B} {c c' : C} → a ≡ a' → b ≡ b' → c ≡ c' → f a b c ≡ f a' b' c'
-three f {a} {a'} {b} {b'} {c} {c'} one two thr = ap (λ x. f x b c) one ∙ ap (λ y. f a' y c) two ∙ ap (f a' b') thr
+three : {A B C E : Type 0} (f : A → B → C → E) {a a' : A} {b b' : B} {c c' : C} → a ≡ a' → b ≡ b'
+    → c ≡ c' → f a b c ≡ f a' b' c'
+three f {a} {a'} {b} {b'} {c} {c'} one two thr =
+    ap (λ x. f x b c) one ∙ ap (λ y. f a' y c) two ∙ ap (f a' b') thr
 
 -- a prefix of the rest behind a prefix
-front_of_rest : (j : ℕ) (ws : List Record) (s : State) (c : Image) → FoldsFront (steps (take j ws) s) (drop j ws) c → FoldsFront s ws c
+front_of_rest : (j : ℕ) (ws : List Record) (s : State) (c : Image)
+    → FoldsFront (steps (take j ws) s) (drop j ws) c → FoldsFront s ws c
 front_of_rest j ws s c (k, folds) = (
   j + k,
   record {
     root = folds.root;
     sound = folds.sound;
-    state_is = folds.state_is ∙ sym (steps-append (take j ws) (take k (drop j ws)) s) ∙ ap (λ (l : List Record). steps l s) (take_split j k ws);
+    state_is =
+        folds.state_is ∙ sym (steps-append (take j ws) (take k (drop j ws)) s)
+        ∙ ap (λ (l : List Record). steps l s) (take_split j k ws);
   },
 )
 
@@ -60,18 +69,24 @@ other_is_log zero = tt
 other_is_log (suc n) = tt
 
 -- the file that a writer goes on in is one of the log
-pub by_is_log : (older : Bool) (file first : ℕ) (log : Log) (image : Image) → WritesBy older file first log image → IsLogFile log.file
+pub by_is_log : (older : Bool) (file first : ℕ) (log : Log) (image : Image)
+    → WritesBy older file first log image → IsLogFile log.file
 by_is_log false file first log image w = subst IsLogFile (sym w.file_is) (file_is_log file)
 by_is_log true file first log image w = subst IsLogFile (sym w.file_is) (other_is_log file)
 
 -- what the writer goes on behind is held
-pub writes_holds : (file first : ℕ) (log : Log) (image : Image) → WritesBehind file first log image → HoldsLog file first (kept_log file first image) image
+pub writes_holds : (file first : ℕ) (log : Log) (image : Image)
+    → WritesBehind file first log image → HoldsLog file first (kept_log file first image) image
 writes_holds file first log image w =
     let same = front_same file first log image [] log.older w.by in
-    subst (λ (l : List (List ℕ)). HoldsLog file first l image) (ap (λ (l : List (List ℕ)). kept_log file first image ++ l) (take-nil same.count) ∙ append-nil (kept_log file first image)) same.holds
+    subst (λ (l : List (List ℕ)). HoldsLog file first l image)
+        (ap (λ (l : List (List ℕ)). kept_log file first image ++ l) (take-nil same.count)
+        ∙ append-nil (kept_log file first image)) same.holds
 
 -- the writer goes on where the files of the log are as they were
-pub goes_on_same : {first : ℕ} {bs : Batches} (log : Log) (old new : Image) → content log.file new ≡ content log.file old → GoesOn first bs log old → GoesOn first bs log new
+pub goes_on_same : {first : ℕ} {bs : Batches} (log : Log) (old new : Image)
+    → content log.file new ≡ content log.file old → GoesOn first bs log old
+    → GoesOn first bs log new
 goes_on_same {first} {bs} log old new same goes = record {
   log_is = subst (HasLog first bs) (sym same) goes.log_is;
   start = goes.start;
@@ -79,9 +94,12 @@ goes_on_same {first} {bs} log old new same goes = record {
   first_is = goes.first_is;
 }
 
-by_same : (older : Bool) (file first : ℕ) (log : Log) (old new : Image) → KeepsLogs old new → WritesBy older file first log old → WritesBy older file first log new
+by_same : (older : Bool) (file first : ℕ) (log : Log) (old new : Image) → KeepsLogs old new
+    → WritesBy older file first log old → WritesBy older file first log new
 by_same false file first log old new same w =
-    let here : content log.file new ≡ content log.file old = subst (λ (f : File). content f new ≡ content f old) (sym w.file_is) (named_same file old new same) in
+    let here : content log.file new ≡ content log.file old =
+        subst (λ (f : File). content f new ≡ content f old) (sym w.file_is)
+        (named_same file old new same) in
     record {
       bs = w.bs;
       file_is = w.file_is;
@@ -95,7 +113,9 @@ by_same false file first log old new same w =
     }
 by_same true file first log old new same w =
     let next = first + length (records w.bs) in
-    let here : content log.file new ≡ content log.file old = subst (λ (f : File). content f new ≡ content f old) (sym w.file_is) (other_same file old new same) in
+    let here : content log.file new ≡ content log.file old =
+        subst (λ (f : File). content f new ≡ content f old) (sym w.file_is)
+        (other_same file old new same) in
     record {
       bs = w.bs;
       cs = w.cs;
@@ -128,22 +148,30 @@ gate_in file first log image w = by log.older w.by
     by true two = gate_behind (first + length (records two.bs)) two.cs log image two.goes_on
 
 -- The log goes on behind what is held where the files of the log are as they were.
-pub writes_same : (root : Root) (log : Log) (old new : Image) → KeepsLogs old new → WritesBehind root.file root.first log old → WritesBehind root.file root.first log new
-writes_same root log old new same w = record { numbered = w.numbered; by = by_same log.older root.file root.first log old new same w.by }
+pub writes_same : (root : Root) (log : Log) (old new : Image) → KeepsLogs old new
+    → WritesBehind root.file root.first log old → WritesBehind root.file root.first log new
+writes_same root log old new same w =
+    record { numbered = w.numbered;
+    by = by_same log.older root.file root.first log old new same w.by }
 
 -- a file of the log is as it was, where both are
-pub log_content : (f : File) (old new : Image) → IsLogFile f → KeepsLogs old new → content f new ≡ content f old
+pub log_content : (f : File) (old new : Image) → IsLogFile f → KeepsLogs old new
+    → content f new ≡ content f old
 log_content RootFile old new is same = absurd is
 log_content LogA old new is same = same.log_a
 log_content LogB old new is same = same.log_b
 log_content Pages old new is same = absurd is
 
 -- a page at home is as it was, where the file of pages is
-home_same : (counted q : ℕ) (old new : Image) → content Pages new ≡ content Pages old → home_in counted new q ≡ home_in counted old q
+home_same : (counted q : ℕ) (old new : Image) → content Pages new ≡ content Pages old
+    → home_in counted new q ≡ home_in counted old q
 home_same counted q old new same =
     ap
     (λ (bytes : List ℕ).
-    record { lsn = (if nat_lt q counted then page_with (value_in (Page q) bytes) else blank_page).lsn; body = (if nat_lt q counted then page_with (value_in (Page q) bytes) else blank_page).bytes })
+    record { lsn = (if nat_lt q counted then page_with (value_in (Page q) bytes)
+        else blank_page).lsn;
+        body = (if nat_lt q counted then page_with (value_in (Page q) bytes)
+        else blank_page).bytes })
     same
 
 -- a page as the value of its block
@@ -151,8 +179,11 @@ abbrev value : ℕ → PageHeld → BlockValue
 value p v = with_body (Page p) v.lsn v.body
 
 module _ {D O : Type 0} (g : Ghosts D) where
-  none_folds : (b : Base D O) (c : Image) → IsQuiet g b → c ≡ g.reads b.disk → FoldsFront (state_of (stored_of g b)) (waiting_of b) c
-  none_folds b c quiet is = (0, record { root = b.root; sound = subst (IsSound b.root) (sym is) quiet.sound; state_is = ap (λ (i : Image). state_of (stored_in b.root i)) is })
+  none_folds : (b : Base D O) (c : Image) → IsQuiet g b → c ≡ g.reads b.disk
+      → FoldsFront (state_of (stored_of g b)) (waiting_of b) c
+  none_folds b c quiet is =
+      (0, record { root = b.root; sound = subst (IsSound b.root) (sym is) quiet.sound;
+      state_is = ap (λ (i : Image). state_of (stored_in b.root i)) is })
 
   -- ---- nothing happens
 
@@ -166,7 +197,8 @@ module _ {D O : Type 0} (g : Ghosts D) where
       let there = gate_in b.root.file b.root.first b.log (g.reads b.disk) quiet.writes in
       subst (HasGate b.log) (sym is) there
 
-  pub quiet_leaves : ((d : D) (c : Image) → g.since d (g.moment_of d) c → g.images d c) → (b : Base D O) → IsQuiet g b → LeavesBase g b b
+  pub quiet_leaves : ((d : D) (c : Image) → g.since d (g.moment_of d) c → g.images d c)
+      → (b : Base D O) → IsQuiet g b → LeavesBase g b b
   quiet_leaves only_now b quiet = record {
     front = starts g b.disk (Front b) (g.images b.disk) (only_now b.disk)
         (λ c is. none_folds b c quiet (quiet.only c is));
@@ -179,7 +211,9 @@ module _ {D O : Type 0} (g : Ghosts D) where
       → b.log ≡ a.log → MovesBase g a b
   same_moves a b root stored log =
       let waits = ap (λ (l : Log). l.buffered) log in
-      let both : now_of g b ≡ now_of g a = ap (λ (l : List (List ℕ)). with_more (records_in l) (stored_of g b)) waits ∙ ap (with_more (waiting_of a)) stored in
+      let both : now_of g b ≡ now_of g a =
+          ap (λ (l : List (List ℕ)). with_more (records_in l) (stored_of g b)) waits
+          ∙ ap (with_more (waiting_of a)) stored in
       record {
         j = 0;
         at_most = omega arith;
@@ -201,14 +235,17 @@ module _ {D O : Type 0} (g : Ghosts D) where
 
   -- ---- one change behind another
 
-  pub leaves_joined : (a b c : Base D O) → MovesBase g a b → LeavesBase g a b → LeavesBase g b c → LeavesBase g a c
+  pub leaves_joined : (a b c : Base D O) → MovesBase g a b → LeavesBase g a b → LeavesBase g b c
+      → LeavesBase g a c
   leaves_joined a b c m ab bc =
       let ws = waiting_of a in
       let s = state_of (stored_of g a) in
       let P : Image → Type 0 = FoldsFront s ws in
       let Q : Image → Type 0 = FoldsFront (state_of (stored_of g b)) (waiting_of b) in
       let within : (i : Image) → Q i → P i = λ i q.
-      front_of_rest m.j ws s i (subst (λ (l : List Record). FoldsFront (steps (take m.j ws) s) l i) m.waiting (subst (λ (t : State). FoldsFront t (waiting_of b) i) m.hardened q)) in
+      front_of_rest m.j ws s i
+          (subst (λ (l : List Record). FoldsFront (steps (take m.j ws) s) l i) m.waiting
+          (subst (λ (t : State). FoldsFront t (waiting_of b) i) m.hardened q)) in
       let further : (i : Image) → HasGate b.log i → HasGate a.log i = λ i long.
       omega (arith, long, m.place, ap (λ (f : File). length (content f i)) m.file) in
       let gate = weaker g b.disk c.disk (HasGate b.log) (HasGate a.log) bc.gate further in
@@ -224,10 +261,18 @@ module _ {D O : Type 0} (g : Ghosts D) where
       let s = state_of (stored_of g a) in
       record {
         j = m.j + n.j;
-        at_most = let one = m.at_most in let two = n.at_most in omega (arith, one, two, ap (λ (l : List Record). length l) m.waiting, length-drop m.j ws);
+        at_most =
+            let one = m.at_most in
+            let two = n.at_most in
+            omega (arith, one, two, ap (λ (l : List Record). length l) m.waiting,
+            length-drop m.j ws);
         waiting = n.waiting ∙ ap (λ (l : List Record). drop n.j l) m.waiting ∙ drop-drop n.j m.j ws;
-        hardened = n.hardened ∙ ap (λ (l : List Record). steps (take n.j l) (state_of (stored_of g b))) m.waiting ∙ ap (steps (take n.j (drop m.j ws))) m.hardened
-            ∙ sym (steps-append (take m.j ws) (take n.j (drop m.j ws)) s) ∙ ap (λ (l : List Record). steps l s) (take_split m.j n.j ws);
+        hardened =
+            n.hardened
+            ∙ ap (λ (l : List Record). steps (take n.j l) (state_of (stored_of g b))) m.waiting
+            ∙ ap (steps (take n.j (drop m.j ws))) m.hardened
+            ∙ sym (steps-append (take m.j ws) (take n.j (drop m.j ws)) s)
+                ∙ ap (λ (l : List Record). steps l s) (take_split m.j n.j ws);
         now = n.now ∙ m.now;
         root = n.root ∙ m.root;
         file = n.file ∙ m.file;
@@ -247,10 +292,13 @@ module _ {D O : Type 0} (g : Ghosts D) where
         (λ c is. gate_there a c quiet (quiet.only c is));
   }
 
-  pub read_moves : (a : Base D O) (d : D) → OnlyReads g a.disk d → MovesBase g a (record a { disk = d })
-  read_moves a d reads = same_moves a (record a { disk = d }) refl (ap (stored_in a.root) reads.same) refl
+  pub read_moves : (a : Base D O) (d : D) → OnlyReads g a.disk d
+      → MovesBase g a (record a { disk = d })
+  read_moves a d reads =
+      same_moves a (record a { disk = d }) refl (ap (stored_in a.root) reads.same) refl
 
-  pub read_quiet : (a : Base D O) (d : D) → IsQuiet g a → OnlyReads g a.disk d → IsQuiet g (record a { disk = d })
+  pub read_quiet : (a : Base D O) (d : D) → IsQuiet g a → OnlyReads g a.disk d
+      → IsQuiet g (record a { disk = d })
   read_quiet a d quiet reads =
       let same = reads.same in record {
         only = still_only g a.disk d reads quiet.only;
@@ -262,30 +310,43 @@ module _ {D O : Type 0} (g : Ghosts D) where
       }
 
   -- what might be saved might be still, where all that is stored and waits is as it was
-  pub saves_same : (a b : Base D O) (p since : ℕ) (v : PageHeld) → b.root ≡ a.root → stored_of g b ≡ stored_of g a → b.log.buffered ≡ a.log.buffered → MaySave g a p since v → MaySave g b p since v
+  pub saves_same : (a b : Base D O) (p since : ℕ) (v : PageHeld) → b.root ≡ a.root
+      → stored_of g b ≡ stored_of g a → b.log.buffered ≡ a.log.buffered → MaySave g a p since v
+      → MaySave g b p since v
   saves_same a b p since v root stored waits may =
-      let both : now_of g b ≡ now_of g a = ap (λ (l : List (List ℕ)). with_more (records_in l) (stored_of g b)) waits ∙ ap (with_more (waiting_of a)) stored in
+      let both : now_of g b ≡ now_of g a =
+          ap (λ (l : List (List ℕ)). with_more (records_in l) (stored_of g b)) waits
+          ∙ ap (with_more (waiting_of a)) stored in
       record {
         counted = subst (λ (s : Stored). p < s.counted) (sym stored) may.counted;
         above = subst (λ (s : Stored). (s.homes p).lsn < v.lsn) (sym stored) may.above;
         low = subst (λ (s : Stored). v.lsn < next_of s) (sym both) may.low;
-        is = ⊎_elim (λ all. inl (subst (λ (s : Stored). v ≡ overlaid p s.first s.records (s.homes p)) (sym both) all))
-            (λ same. inr (subst (λ (s : Stored). overlaid p s.first s.records v ≡ overlaid p s.first s.records (s.homes p)) (sym stored) same))
+        is =
+            ⊎_elim (λ all. inl
+            (subst (λ (s : Stored). v ≡ overlaid p s.first s.records (s.homes p)) (sym both) all))
+            (λ same. inr (subst
+                (λ (s : Stored). overlaid p s.first s.records v
+                ≡ overlaid p s.first s.records (s.homes p)) (sym stored) same))
             may.is;
         early = subst (λ (s : Stored). since < next_of s) (sym both) may.early;
-        behind = subst (λ (s : Stored). overlaid p s.first (take (since - s.first) s.records) (s.homes p) ≡ s.homes p) (sym both) may.behind;
+        behind =
+            subst (λ (s : Stored). overlaid p s.first (take (since - s.first) s.records)
+            (s.homes p) ≡ s.homes p) (sym both) may.behind;
       }
 
-  pub read_holds : (a : Base D O) (d : D) → OnlyReads g a.disk d → HoldsStill (home_of g) (MaySave g) a (record a { disk = d })
+  pub read_holds : (a : Base D O) (d : D) → OnlyReads g a.disk d
+      → HoldsStill (home_of g) (MaySave g) a (record a { disk = d })
   read_holds a d reads =
       let stored = ap (stored_in a.root) reads.same in record {
         same = λ q. ap (λ (s : Stored). s.homes q) stored;
-        still = λ q since v may. saves_same a (record a { disk = d }) q since v refl stored refl may;
+        still =
+            λ q since v may. saves_same a (record a { disk = d }) q since v refl stored refl may;
       }
 
   -- ---- a page's writing
 
-  pub may_stand : (a : Base D O) (p since : ℕ) (v : PageHeld) → IsQuiet g a → MaySave g a p since v → v.lsn < a.durable → MayStand a.root (g.reads a.disk) p (value p v)
+  pub may_stand : (a : Base D O) (p since : ℕ) (v : PageHeld) → IsQuiet g a
+      → MaySave g a p since v → v.lsn < a.durable → MayStand a.root (g.reads a.disk) p (value p v)
   may_stand a p since v quiet may low =
       let s = stored_of g a in
       let ws = waiting_of a in
@@ -296,20 +357,27 @@ module _ {D O : Type 0} (g : Ghosts D) where
         below = omega (arith, low, durable);
         same = ⊎_elim
             (λ (all : v ≡ overlaid p s.first (s.records ++ ws) (s.homes p)).
-            let there : (overlaid p s.first (s.records ++ ws) (s.homes p)).lsn < s.first + length s.records = subst (λ (x : PageHeld). x.lsn < s.first + length s.records) all (omega (arith, low, durable)) in
-            ap (overlaid p s.first s.records) (all ∙ durable_alone p s.first s.records ws (s.homes p) there) ∙ again p s.first s.records (s.homes p))
+            let there : (overlaid p s.first (s.records ++ ws)
+                (s.homes p)).lsn < s.first + length s.records = subst
+                (λ (x : PageHeld). x.lsn < s.first + length s.records) all
+                (omega (arith, low, durable)) in
+            ap (overlaid p s.first s.records)
+                (all ∙ durable_alone p s.first s.records ws (s.homes p) there)
+                ∙ again p s.first s.records (s.homes p))
             (λ same. same)
             may.is;
       }
 
-  pub home_leaves : (a : Base D O) (d : D) (p since : ℕ) (v : PageHeld) → IsQuiet g a → MaySave g a p since v → v.lsn < a.durable
+  pub home_leaves : (a : Base D O) (d : D) (p since : ℕ) (v : PageHeld) → IsQuiet g a
+      → MaySave g a p since v → v.lsn < a.durable
       → LeavesOnly g a.disk d (IsOldOrNewValue (Page p) (value p v) (g.reads a.disk))
       → LeavesBase g a (record a { disk = d })
   home_leaves a d p since v quiet may low crash =
       let Written : Image → Type 0 = IsOldOrNewValue (Page p) (value p v) (g.reads a.disk) in
       let old = g.reads a.disk in
       let file = by_is_log a.log.older a.root.file a.root.first a.log old quiet.writes.by in
-      let same : (c : Image) → Written c → content a.log.file c ≡ content a.log.file old = λ c which.
+      let same : (c : Image) → Written c → content a.log.file c ≡ content a.log.file old =
+          λ c which.
       log_content a.log.file old c file (pages_apart old c which.0.files) in
       let stand = may_stand a p since v quiet may low in
       record {
@@ -320,14 +388,18 @@ module _ {D O : Type 0} (g : Ghosts D) where
       }
 
   -- whatever the log held, a page's writing leaves it and the other pages
-  module _ (a : Base D O) (d : D) (p : ℕ) (v : PageHeld) (counted : p < a.root.pages) (others : OthersStay (Page p) (g.reads a.disk) (g.reads d)) (is : value_of (Page p) (g.reads d) ≡ Some (value p v)) where
+  module _ (a : Base D O) (d : D) (p : ℕ) (v : PageHeld) (counted : p < a.root.pages)
+      (others : OthersStay (Page p) (g.reads a.disk) (g.reads d))
+      (is : value_of (Page p) (g.reads d) ≡ Some (value p v)) where
     same_logs : KeepsLogs (g.reads a.disk) (g.reads d)
     same_logs = pages_apart (g.reads a.disk) (g.reads d) others.files
 
     homes_are : (q : ℕ) → home_of g (record a { disk = d }) q ≡ home_put p v (home_of g a) q
-    homes_are = home_written a.root.pages p (value p v) (g.reads a.disk) (g.reads d) counted others is
+    homes_are =
+        home_written a.root.pages p (value p v) (g.reads a.disk) (g.reads d) counted others is
 
-    log_same : kept_log a.root.file a.root.first (g.reads d) ≡ kept_log a.root.file a.root.first (g.reads a.disk)
+    log_same : kept_log a.root.file a.root.first (g.reads d)
+        ≡ kept_log a.root.file a.root.first (g.reads a.disk)
     log_same = kept_same a.root.file a.root.first (g.reads a.disk) (g.reads d) same_logs
 
     pub is_home : IsHome g p v a (record a { disk = d })
@@ -345,14 +417,21 @@ module _ {D O : Type 0} (g : Ghosts D) where
         let more = others.no_shorter in
         let size = stands.size in
         record {
-          says = subst (λ o. SaysRoot o a.root) (sym (others.blocks RootBlock (λ same. absurd (cc same)))) stands.says;
+          says =
+              subst (λ o. SaysRoot o a.root)
+              (sym (others.blocks RootBlock (λ same. absurd (cc same)))) stands.says;
           file = stands.file;
-          goes_on = (goes.0, goes.1, goes_on_same a.log (g.reads a.disk) (g.reads d) (log_content a.log.file (g.reads a.disk) (g.reads d) stands.file same_logs) goes.2);
+          goes_on =
+              (goes.0, goes.1,
+              goes_on_same a.log (g.reads a.disk) (g.reads d)
+              (log_content a.log.file (g.reads a.disk) (g.reads d) stands.file same_logs) goes.2);
           size = omega (arith, more, size);
           starts = stands.starts;
         }
 
-  module _ (a : Base D O) (d : D) (p since : ℕ) (v : PageHeld) (quiet : IsQuiet g a) (may : MaySave g a p since v) (low : v.lsn < a.durable) (others : OthersStay (Page p) (g.reads a.disk) (g.reads d))
+  module _ (a : Base D O) (d : D) (p since : ℕ) (v : PageHeld) (quiet : IsQuiet g a)
+      (may : MaySave g a p since v) (low : v.lsn < a.durable)
+      (others : OthersStay (Page p) (g.reads a.disk) (g.reads d))
       (is : value_of (Page p) (g.reads d) ≡ Some (value p v)) where
     abbrev b : Base D O
     b = record a { disk = d }
@@ -373,13 +452,18 @@ module _ {D O : Type 0} (g : Ghosts D) where
           j = 0;
           at_most = omega arith;
           waiting = refl;
-          hardened = state_written a.root p (value p v) (g.reads a.disk) (g.reads d) stands others is;
-          now = state_with_more a.root ws (home_put p v (home_of g a)) (g.reads a.disk) (g.reads d) logs homes ∙ state_swapped p v ws s stands.same;
+          hardened =
+              state_written a.root p (value p v) (g.reads a.disk) (g.reads d) stands others is;
+          now =
+              state_with_more a.root ws (home_put p v (home_of g a)) (g.reads a.disk) (g.reads d)
+              logs homes ∙ state_swapped p v ws s stands.same;
           root = refl;
           file = refl;
           place = omega arith;
           all = ap (λ (l : List (List ℕ)). records_in l ++ ws) log;
-          pages = λ q. ap (λ (l : List (List ℕ)). overlaid q a.root.first (records_in l ++ ws) (home_of g b q)) log ∙ ap (overlaid q a.root.first (s.records ++ ws)) (homes q)
+          pages =
+              λ q. ap (λ (l : List (List ℕ)). overlaid q a.root.first (records_in l ++ ws)
+              (home_of g b q)) log ∙ ap (overlaid q a.root.first (s.records ++ ws)) (homes q)
               ∙ page_swapped p a.root.first s.records ws v (home_of g a) stands.same q;
         }
 
@@ -388,15 +472,21 @@ module _ {D O : Type 0} (g : Ghosts D) where
         let next = next_same a.root (g.reads a.disk) (g.reads d) logs in
         record {
           only = only;
-          sound = sound_written a.root p (value p v) (g.reads a.disk) (g.reads d) quiet.sound stands others is;
+          sound =
+              sound_written a.root p (value p v) (g.reads a.disk) (g.reads d)
+              quiet.sound stands others is;
           writes = writes_same a.root a.log (g.reads a.disk) (g.reads d) logs quiet.writes;
-          follows = follows_same a.root a.log.file a.log.buffered (g.reads a.disk) (g.reads d) logs quiet.follows;
+          follows =
+              follows_same a.root a.log.file a.log.buffered (g.reads a.disk) (g.reads d)
+              logs quiet.follows;
           durable = quiet.durable ∙ sym next;
           first = quiet.first ∙ sym next;
         }
 
   -- what a page's writing puts below the pool, where it was held and might be saved as before
-  pub puts_home : (first : Image) (a m b : Base D O) (p : ℕ) (v : PageHeld) → HoldsStill (home_of g) (MayPut first g) a m → IsHome g p v m b → PutsPage (home_of g) (MayPut first g) p v a b
+  pub puts_home : (first : Image) (a m b : Base D O) (p : ℕ) (v : PageHeld)
+      → HoldsStill (home_of g) (MayPut first g) a m → IsHome g p v m b
+      → PutsPage (home_of g) (MayPut first g) p v a b
   puts_home first a m b p v holds home = record {
     there = home.there;
     others = λ q other. home.others q other ∙ holds.same q;
@@ -407,7 +497,9 @@ module _ {D O : Type 0} (g : Ghosts D) where
       from = ap (λ (r : Root). r.first) home.root
 
       records : (now_of g b).records ≡ (now_of g m).records
-      records = ap (λ (l : List Record). l ++ waiting_of b) home.records ∙ ap (λ (l : Log). (stored_of g m).records ++ records_in l.buffered) home.log
+      records =
+          ap (λ (l : List Record). l ++ waiting_of b) home.records
+          ∙ ap (λ (l : Log). (stored_of g m).records ++ records_in l.buffered) home.log
 
       saves : (q since : ℕ) (w : PageHeld) → q ≢ p → MaySave g m q since w → MaySave g b q since w
       saves q since w other may =
@@ -415,15 +507,25 @@ module _ {D O : Type 0} (g : Ghosts D) where
           record {
             counted = subst (λ (r : Root). q < r.pages) (sym home.root) may.counted;
             above = subst (λ (h : PageHeld). h.lsn < w.lsn) (sym held) may.above;
-            low = let was = may.low in omega (arith, was, from, ap (λ (l : List Record). length l) records);
-            is = ⊎_elim (λ all. inl (all ∙ sym (three (λ n l h. overlaid q n l h) from records held)))
-                (λ same. inr (three (λ n l h. overlaid q n l h) from home.records refl ∙ same ∙ sym (three (λ n l h. overlaid q n l h) from home.records held)))
+            low =
+                let was = may.low in
+                omega (arith, was, from, ap (λ (l : List Record). length l) records);
+            is =
+                ⊎_elim (λ all. inl
+                (all ∙ sym (three (λ n l h. overlaid q n l h) from records held)))
+                (λ same. inr (three (λ n l h. overlaid q n l h) from home.records refl ∙ same
+                    ∙ sym (three (λ n l h. overlaid q n l h) from home.records held)))
                 may.is;
-            early = let was = may.early in omega (arith, was, from, ap (λ (l : List Record). length l) records);
-            behind = three (λ n l h. overlaid q n (take (since - n) l) h) from records held ∙ may.behind ∙ sym held;
+            early =
+                let was = may.early in
+                omega (arith, was, from, ap (λ (l : List Record). length l) records);
+            behind =
+                three (λ n l h. overlaid q n (take (since - n) l) h) from records held
+                ∙ may.behind ∙ sym held;
           }
 
-      still : (q since : ℕ) (w : PageHeld) → q ≢ p → MayPut first g m q since w → MayPut first g b q since w
+      still : (q since : ℕ) (w : PageHeld) → q ≢ p → MayPut first g m q since w
+          → MayPut first g b q since w
       still q since w other may = record {
         counted = subst (λ (r : Root). q < r.pages) (sym home.root) may.counted;
         above = subst (λ (h : PageHeld). h.lsn < w.lsn) (sym (home.others q other)) may.above;
@@ -433,7 +535,10 @@ module _ {D O : Type 0} (g : Ghosts D) where
   -- ---- what holds of every disk
 
   -- all is held, where the homes are as they were
-  pub holds_if : (first : Image) (a b : Base D O) → b.root.pages ≡ a.root.pages → ((q : ℕ) → home_of g b q ≡ home_of g a q) → (IsSoundImage first → HoldsStill (home_of g) (MaySave g) a b) → HoldsStill (home_of g) (MayPut first g) a b
+  pub holds_if : (first : Image) (a b : Base D O) → b.root.pages ≡ a.root.pages
+      → ((q : ℕ) → home_of g b q ≡ home_of g a q)
+      → (IsSoundImage first → HoldsStill (home_of g) (MaySave g) a b)
+      → HoldsStill (home_of g) (MayPut first g) a b
   holds_if first a b root same sound = record {
     same = same;
     still = λ q since v may.
@@ -444,20 +549,28 @@ module _ {D O : Type 0} (g : Ghosts D) where
         };
   }
 
-  pub rests_leaves : (first : Image) → ((d : D) (c : Image) → g.since d (g.moment_of d) c → g.images d c) → (b : Base D O) → StandsQuiet first g b → LeavesIf first g b b
+  pub rests_leaves : (first : Image)
+      → ((d : D) (c : Image) → g.since d (g.moment_of d) c → g.images d c) → (b : Base D O)
+      → StandsQuiet first g b → LeavesIf first g b b
   rests_leaves first only_now b rests sound = quiet_leaves only_now b (rests.quiet sound)
 
   -- what a read leaves
-  pub stands_read : (a : Base D O) (d : D) → g.reads d ≡ g.reads a.disk → StandsWell g a → StandsWell g (record a { disk = d })
+  pub stands_read : (a : Base D O) (d : D) → g.reads d ≡ g.reads a.disk → StandsWell g a
+      → StandsWell g (record a { disk = d })
   stands_read a d same stands = record {
     says = subst (λ (i : Image). SaysRoot (value_of RootBlock i) a.root) (sym same) stands.says;
     file = stands.file;
-    goes_on = subst (λ (i : Image). (oldest : ℕ) × (bs : Batches) × GoesOn oldest bs a.log i) (sym same) stands.goes_on;
-    size = subst (λ (i : Image). 8256 * a.root.pages ≤ length (content Pages i)) (sym same) stands.size;
+    goes_on =
+        subst (λ (i : Image). (oldest : ℕ) × (bs : Batches) × GoesOn oldest bs a.log i)
+        (sym same) stands.goes_on;
+    size =
+        subst (λ (i : Image). 8256 * a.root.pages ≤ length (content Pages i)) (sym same)
+        stands.size;
     starts = stands.starts;
   }
 
-  pub read_rests : (first : Image) (a : Base D O) (d : D) → OnlyReads g a.disk d → StandsQuiet first g a → StandsQuiet first g (record a { disk = d })
+  pub read_rests : (first : Image) (a : Base D O) (d : D) → OnlyReads g a.disk d
+      → StandsQuiet first g a → StandsQuiet first g (record a { disk = d })
   read_rests first a d reads rests = record {
     stands = stands_read a d reads.same rests.stands;
     since = subst (HomesSince first a.root.pages) (sym reads.same) rests.since;
@@ -465,18 +578,28 @@ module _ {D O : Type 0} (g : Ghosts D) where
   }
 
   -- what a flush leaves, that changes one file of the log
-  pub stands_flushed : (a b : Base D O) → StandsWell g a → b.root ≡ a.root → b.log.file ≡ a.log.file → StartsAt b.log.older a.root.first b.log.start → KeepsHomes (g.reads a.disk) (g.reads b.disk) → (oldest : ℕ) (bs : Batches) → GoesOn oldest bs b.log (g.reads b.disk)
+  pub stands_flushed : (a b : Base D O) → StandsWell g a → b.root ≡ a.root
+      → b.log.file ≡ a.log.file → StartsAt b.log.older a.root.first b.log.start
+      → KeepsHomes (g.reads a.disk) (g.reads b.disk) → (oldest : ℕ) (bs : Batches)
+      → GoesOn oldest bs b.log (g.reads b.disk)
       → StandsWell g b
   stands_flushed a b stands root file starts kept oldest bs goes =
       let size = stands.size in
       record {
         says = subst (λ (r : Root). SaysRoot (value_of RootBlock (g.reads b.disk)) r) (sym root)
-            (subst (λ (bytes : List ℕ). SaysRoot (value_of RootBlock (record (g.reads a.disk) { root = bytes })) a.root) (sym kept.root) stands.says);
+            (subst (λ (bytes : List ℕ). SaysRoot
+                (value_of RootBlock (record (g.reads a.disk) { root = bytes })) a.root)
+                (sym kept.root) stands.says);
         file = subst IsLogFile (sym file) stands.file;
         goes_on = (oldest, bs, goes);
-        size = omega (arith, size, ap (λ (r : Root). r.pages) root, ap (λ (l : List ℕ). length l) kept.pages);
+        size =
+            omega (arith, size, ap (λ (r : Root). r.pages) root,
+            ap (λ (l : List ℕ). length l) kept.pages);
         starts = subst (λ (r : Root). StartsAt b.log.older r.first b.log.start) (sym root) starts;
       }
 
-  pub homes_flushed : (a b : Base D O) → b.root ≡ a.root → KeepsHomes (g.reads a.disk) (g.reads b.disk) → (q : ℕ) → home_of g b q ≡ home_of g a q
-  homes_flushed a b root kept q = ap (λ (r : Root). home_in r.pages (g.reads b.disk) q) root ∙ home_same a.root.pages q (g.reads a.disk) (g.reads b.disk) kept.pages
+  pub homes_flushed : (a b : Base D O) → b.root ≡ a.root
+      → KeepsHomes (g.reads a.disk) (g.reads b.disk) → (q : ℕ) → home_of g b q ≡ home_of g a q
+  homes_flushed a b root kept q =
+      ap (λ (r : Root). home_in r.pages (g.reads b.disk) q) root
+      ∙ home_same a.root.pages q (g.reads a.disk) (g.reads b.disk) kept.pages

@@ -15,4 +15,5 @@ pub record KeepsPageBytes (n : ℕ) (old new : Image) : Type 0 where
 pub record AreCleared (from to : ℕ) (old new : Image) : Type 0 where
   pub others : OtherFilesStay Pages old new
   pub pages : new.pages
-      ≡ take (8256 * from) old.pages ++ zero_bytes (8256 * (to - from)) ++ drop (8256 * to) old.pages
+      ≡ take (8256 * from) old.pages ++ zero_bytes (8256 * (to - from))
+          ++ drop (8256 * to) old.pages

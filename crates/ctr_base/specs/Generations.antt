@@ -34,7 +34,8 @@ pub record KeepsFold {D O : Type 0} (g : Ghosts D) (a b : Base D O) : Type 0 whe
 
 -- So it is where the first image was sound; and it stands over the same pages, of which may be
 -- saved what might be.
-pub record SwitchesOver {D O : Type 0} (first : Image) (g : Ghosts D) (a b : Base D O) : Type 0 where
+pub record SwitchesOver {D O : Type 0} (first : Image) (g : Ghosts D)
+    (a b : Base D O) : Type 0 where
   pub base : IsSoundImage first → KeepsFold g a b
   pub rests : StandsQuiet first g b
   pub holds : HoldsStill (home_of g) (MayPut first g) a b
@@ -47,7 +48,8 @@ OlderIsHome g b =
 
 -- Behind an Ok the root names the other file and the first record of the current generation, and no
 -- older one is kept; behind an error all but the disk is as it was.
-pub record NamesNewer {D O T : Type 0} (a b : Base D O) (result : Result T StoreFault) : Type 0 where
+pub record NamesNewer {D O T : Type 0} (a b : Base D O)
+    (result : Result T StoreFault) : Type 0 where
   pub file : OnOk result (b.root.file ≡ other_byte a.root.file)
   pub first : OnOk result (b.root.first ≡ a.log.start)
   pub pages : b.root.pages ≡ a.root.pages

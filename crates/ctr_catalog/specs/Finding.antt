@@ -45,7 +45,8 @@ pub record LooksTo {A : Type 0} (check : ℕ → Result ⊤ BadRecord) (is : ℕ
   pub passes : check last ≡ Ok tt
   pub is_said : said ≡ is last
 
--- Or one of them is damaged: those before it pass, and nothing is said of them.
+-- An entry is the first of its page, from a given one on, that fails its check; of those between
+-- nothing is said.
 pub record FailsAt {A : Type 0} (check : ℕ → Result ⊤ BadRecord) (is : ℕ → Option A)
     (from e : ℕ) (bad : BadRecord) : Type 0 where
   pub from_on : from ≤ e

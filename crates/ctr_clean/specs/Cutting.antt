@@ -26,8 +26,8 @@ PassesNoneInReach passes area from =
     ((q : Place) → IsFirstPassing passes area.older q (places_along reach area.older from) → ⊥)
     × (EndsInReach area from → ⊥)
 
--- This one is the first of a chain whose version passes, and another one is behind it; or no such
--- one has another behind it; or that isn't seen.
+-- Where a chain is cut: behind its first entry whose version passes, where another one is behind
+-- that; nowhere, where no such entry has another behind it; or farther than is looked.
 abbrev pub IsCutAlong : (ℕ → Bool) → Area → Place → CutFound → Type 0
 IsCutAlong passes area from (Behind q) =
     IsFirstFrom passes area from q × ((area.older q).pointer.page ≢ 0)

@@ -29,7 +29,8 @@ pub record IsSaid (older : Older) (f : OlderFacts) : Type 0 where
   pub next : older.pointer ≡ f.next
 
 -- The key of a version entry that is in use, of a row that isn't locked, and of no commit that
--- somebody may not see yet; or it isn't in use, unless its row is locked; or it is of such a commit.
+-- somebody may not see yet; or it isn't in use, unless its row is locked; or it is of such a
+-- commit.
 abbrev pub IsOpenKey : Locks → ℕ → ℕ → State → Place → OpenKey → Type 0
 IsOpenKey locks low e s q (Open key) = (((area_in s).older q).used ≡ true)
     × (((area_in s).older q).key ≡ key) × IsUnlocked locks e ((area_in s).older q).key

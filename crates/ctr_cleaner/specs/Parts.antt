@@ -70,8 +70,8 @@ turn_logged Cleaned = turn.Cleaned
 turn_logged Unlinked = turn.Unlinked
 turn_logged Reclaimed = turn.Reclaimed
 
--- What a part came to at a position: a record was logged; or it isn't seen whether there is anything
--- to do.
+-- What a part came to at a position: a record was logged; or it isn't seen whether there is
+-- anything to do.
 abbrev pub DealtAt : Heeded → Position → State → State → Dealt → Type 0
 DealtAt h x s t (Logs logged) = CleansFreely h x (turn_logged logged) s t
 DealtAt h x s t Unseen = (t ≡ s) × IsUnseenAt h.locks h.low x s

@@ -84,15 +84,17 @@ pub record CleansFreely (h : Heeded) (x : Position) (turn : CleanTurn) (s t : St
 -- The state is as it was. No page waits to be free again but undo's. There is nothing to do at the
 -- position, which is said only where everything may be done in a table that is dead. And this is
 -- the position behind it, if any.
-pub record PassesPosition (h : Heeded) (x : Position) (y : Option Position) (s t : State) : Type 0 where
+pub record PassesPosition (h : Heeded) (x : Position) (y : Option Position)
+    (s t : State) : Type 0 where
   pub same : t ≡ s
   pub free : HasNoFree h.spared s.tables
   pub nothing : MayAll h.may → HasNothingAt (IsFreeRow h.locks s) h.low x s
   pub behind : next_position (site_of s) x ≡ y
 
--- The state is as it was. At the position it isn't seen whether there is anything to do. And this is
--- the position behind it, if any.
-pub record LeavesPosition (h : Heeded) (x : Position) (y : Option Position) (s t : State) : Type 0 where
+-- The state is as it was. At the position it isn't seen whether there is anything to do. And this
+-- is the position behind it, if any.
+pub record LeavesPosition (h : Heeded) (x : Position) (y : Option Position)
+    (s t : State) : Type 0 where
   pub same : t ≡ s
   pub unseen : IsUnseenAt h.locks h.low x s
   pub behind : next_position (site_of s) x ≡ y

@@ -41,7 +41,8 @@ is_page_of p (q ∷ qs) = if q == p then true else is_page_of p qs
 
 -- What a page of the catalog says of a bucket, whose table's entry passes and isn't free: the kinds
 -- of the columns behind the key, and the first page.
-pub record BucketSaid (counted e bucket : ℕ) (page : List ℕ) (kinds : List Kind) (first : ℕ) : Type 0
+pub record BucketSaid (counted e bucket : ℕ) (page : List ℕ) (kinds : List Kind)
+    (first : ℕ) : Type 0
   where
     pub checked : entry_check counted (ENTRY_SIZE * (e % 16)) page ≡ Ok tt
     pub used : (entry_at (e % 16) page).state ≢ 0
@@ -65,12 +66,15 @@ checks_of counted b = record {
 -- the keys of the pages of a set
 abbrev pub keys_in : {S : Type 0} → IndexSet ℕ S → List Kind → (ℕ → List ℕ) → ℕ → ℕ → Option ℤ
 keys_in set kinds pages p n =
-    if contains nat_eq set p && nat_lt n (slots_of_kinds kinds) then key_on kinds n (pages p) else None
+    if contains nat_eq set p && nat_lt n (slots_of_kinds kinds) then key_on kinds n (pages p)
+        else None
 
 -- Of the pages of a set, those outside of another set have no free slot.
-abbrev pub SparesTell : {S T : Type 0} → IndexSet ℕ S → IndexSet ℕ T → List Kind → (ℕ → List ℕ) → Type 0
+abbrev pub SparesTell : {S T : Type 0} → IndexSet ℕ S → IndexSet ℕ T → List Kind → (ℕ → List ℕ)
+    → Type 0
 SparesTell set spare kinds pages =
-    (p : ℕ) → contains nat_eq set p ≡ true → contains nat_eq spare p ≡ false → AllUsed kinds (pages p)
+    (p : ℕ) → contains nat_eq set p ≡ true → contains nat_eq spare p ≡ false
+        → AllUsed kinds (pages p)
 
 -- A bucket is remembered as its pages are: what the catalog says of it; its chain from the head on
 -- along the pages that were read, which are no more than a chain can have; where each of their keys
@@ -111,7 +115,8 @@ pub record KnowsChain (counted : ℕ) (pages : ℕ → List ℕ) (e bucket : ℕ
   pub first : ℕ
   pub chain : List ℕ
   pub said : BucketSaid counted e bucket (pages (1 + e / 16)) kinds first
-  pub runs : RunsAlong (RowPagePasses (record { chain = Rows e bucket; kinds = kinds; counted = counted }))
+  pub runs : RunsAlong
+      (RowPagePasses (record { chain = Rows e bucket; kinds = kinds; counted = counted }))
       pages first chain 0
   pub few : length chain + 3 ≤ counted
 

@@ -96,7 +96,8 @@ IsOverWhere turn.Stopped runner = ⊥
 -- more; and for each of these the turns for room.
 unfoldable pub turns_left : {D : Type 0} → Sessions → View D → ℕ
 turns_left h v =
-    ((all_left h.runners.items * 2 ^ 64 + (2 ^ 63 - v.next)) * 2 ^ 15 + (MOST_PAGES - v.now.counted))
+    ((all_left h.runners.items * 2 ^ 64 + (2 ^ 63 - v.next)) * 2 ^ 15 +
+        (MOST_PAGES - v.now.counted))
     * 4
     + turns_for_room v
 
@@ -134,8 +135,10 @@ noted_entry s runner x r moment = record {
 -- what a turn of an act adds to the tape at a moment
 abbrev pub entries_by : ℕ → Runner → ℕ → Acted → List Entry
 entries_by s runner moment (acted.On at) = []
-entries_by s runner moment (acted.Granted at) = noted_entry s runner act.Lock reply.Granted moment ∷ []
-entries_by s runner moment (acted.Asked k) = noted_entry s runner act.Ask (reply.Asked k) moment ∷ []
+entries_by s runner moment (acted.Granted at) =
+    noted_entry s runner act.Lock reply.Granted moment ∷ []
+entries_by s runner moment (acted.Asked k) =
+    noted_entry s runner act.Ask (reply.Asked k) moment ∷ []
 entries_by s runner moment (acted.Ended x r) = noted_entry s runner x r moment ∷ []
 
 -- How far a session is behind what its turn did.

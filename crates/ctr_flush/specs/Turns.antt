@@ -18,7 +18,8 @@ use Rattle.ctr_flush.specs.declared.flusher.FlushTurn.TheVariants.{Wrote, Idle, 
 -- hardened with a prefix of what waited. However it ends, the tables, the count of pages and room
 -- aren't less, the clock didn't go back, and no call of the disk went past the last place of a
 -- file, but where the log ends at 2^62 + 2^61 or further on.
-pub record KeepsPages {D T : Type 0} (first : Image) (g : Ghosts D) (a b : View D) (result : Result T StoreFault)
+pub record KeepsPages {D T : Type 0} (first : Image) (g : Ghosts D) (a b : View D)
+    (result : Result T StoreFault)
     : Type 0 where
   pub any_moment : IsTrue g.tells → IsSoundImage first → LeavesFront g a b
   pub shows : IsTrue g.tells → IsSoundImage first → OnOk result (Logs [] a b × LeavesFront g b b)
@@ -111,6 +112,8 @@ AnswersRest a b (Err e) = Unit {0}
 
 -- One of the other cases was done, and Wrote is answered; or none applies, and the given turn is
 -- answered.
-abbrev pub AnswersOr : {D : Type 0} → FlushTurn → View D → View D → Result FlushTurn StoreFault → Type 0
-AnswersOr none a b (Ok t) = ((t ≡ Wrote) × AnswersRest a b (Ok true)) ⊎ ((t ≡ none) × AnswersRest a b (Ok false))
+abbrev pub AnswersOr : {D : Type 0} → FlushTurn → View D → View D → Result FlushTurn StoreFault
+    → Type 0
+AnswersOr none a b (Ok t) =
+    ((t ≡ Wrote) × AnswersRest a b (Ok true)) ⊎ ((t ≡ none) × AnswersRest a b (Ok false))
 AnswersOr none a b (Err e) = Unit {0}

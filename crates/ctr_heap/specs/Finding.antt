@@ -42,7 +42,8 @@ FindsKey area e key None =
 -- The search tells a free slot of the bucket's chain; or each of them is used.
 abbrev pub FindsFree : Area → ℕ → ℕ → Option Place → Type 0
 FindsFree area e bucket (Some at) =
-    IsAmong at (places_from area (first_of_chain area (Rows e bucket))) × ((area.slot at).used ≡ false)
+    IsAmong at (places_from area (first_of_chain area (Rows e bucket)))
+        × ((area.slot at).used ≡ false)
 FindsFree area e bucket None =
     (at : Place) → IsAmong at (places_from area (first_of_chain area (Rows e bucket)))
     → (area.slot at).used ≡ true

@@ -128,4 +128,5 @@ page_with (Some v) = record { lsn = v.stamp; bytes = v.body }
 -- A page of an image in which so many pages are counted, as it stands at home: one without an open
 -- home is blank, and so is one that isn't counted.
 abbrev pub page_at_home : ℕ → ℕ → Image → PageValue
-page_at_home counted p image = if nat_lt p counted then page_with (value_of (Page p) image) else blank_page
+page_at_home counted p image =
+    if nat_lt p counted then page_with (value_of (Page p) image) else blank_page

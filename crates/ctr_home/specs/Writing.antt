@@ -24,7 +24,8 @@ home_chosen (Some a) (Some b) = if nat_lt a b then First else Second
 
 -- the home to write in the bytes of a file
 abbrev pub chosen_in : Block → List ℕ → Home
-chosen_in b bytes = home_chosen (stamp_in (held_at b First bytes)) (stamp_in (held_at b Second bytes))
+chosen_in b bytes =
+    home_chosen (stamp_in (held_at b First bytes)) (stamp_in (held_at b Second bytes))
 
 -- its gate lies in the file and isn't open
 abbrev pub IsShut : Block → Home → List ℕ → Type 0
@@ -49,7 +50,8 @@ pub record OthersStay (b : Block) (old new : Image) : Type 0 where
 pub record KeepsHome (b : Block) (home : Home) (old new : Image) : Type 0 where
   pub others : OthersStay b old new
   pub beside :
-      held_at b (other home) (content (file_of b) new) ≡ held_at b (other home) (content (file_of b) old)
+      held_at b (other home) (content (file_of b) new)
+          ≡ held_at b (other home) (content (file_of b) old)
   pub here : (held_at b home (content (file_of b) new) ≡ None)
       ⊎ (held_at b home (content (file_of b) new) ≡ held_at b home (content (file_of b) old))
 
@@ -58,7 +60,8 @@ pub record KeepsHome (b : Block) (home : Home) (old new : Image) : Type 0 where
 pub record MakesHome (b : Block) (home : Home) (value : BlockValue) (old new : Image) : Type 0 where
   pub others : OthersStay b old new
   pub beside :
-      held_at b (other home) (content (file_of b) new) ≡ held_at b (other home) (content (file_of b) old)
+      held_at b (other home) (content (file_of b) new)
+          ≡ held_at b (other home) (content (file_of b) old)
   pub here : held_at b home (content (file_of b) new) ≡ Some value
   pub whole : home_bytes b home (content (file_of b) new) ≡ 1 ∷ behind_gate b value
 

@@ -122,7 +122,8 @@ begun_mind s site answered w = record (carrying s [] w) {
 }
 
 -- the scene in which the session has drawn this number, and was granted the act of its statement
-abbrev pub drawn_scene : {c : Start} {w : Mind} {s : ℕ} → InTransaction c w s → ℕ → Transaction → Scene
+abbrev pub drawn_scene : {c : Start} {w : Mind} {s : ℕ} → InTransaction c w s → ℕ → Transaction
+    → Scene
 drawn_scene {c} {w} {s} seat x u = record {
   run = held_as s (record seat.session { me = x }) w.run;
   state = with_transaction s u (state_now c w);

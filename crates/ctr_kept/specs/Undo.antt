@@ -50,7 +50,8 @@ pub record IsSessions (sessions : List (ℕ × SessionHeld)) (x : ℕ) : Type 0 
 -- The items of the tables are those left of the start, and behind them those of this run, of which
 -- none is of who is left; who is left is open, once, and no session's; and who else is open has
 -- begun in this run, and is a session's.
-pub record IsUndoLeft (tables : Tables) (sessions : List (ℕ × SessionHeld)) (u : Undo) : Type 0 where
+pub record IsUndoLeft (tables : Tables) (sessions : List (ℕ × SessionHeld))
+    (u : Undo) : Type 0 where
   pub run : List SlogItem
   pub items : tables.items ≡ u.items ++ run
   pub theirs : (i : SlogItem) → IsAmong i u.items → IsTheirs u.orphans i

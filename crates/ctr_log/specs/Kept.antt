@@ -19,7 +19,9 @@ use Rattle.ctr_log.specs.Fresh.{SameRoot}
 abbrev pub logged : ℕ → List ℕ → List (List ℕ)
 logged zero bytes = []
 logged (suc n) bytes =
-    if slice_index bytes 0 == 1 then unframed (field 4 17 bytes) (take (field 8 1 bytes) (drop 21 bytes)) ++ logged n (drop (21 + field 8 1 bytes) bytes) else []
+    if slice_index bytes 0 == 1 then unframed (field 4 17 bytes)
+        (take (field 8 1 bytes) (drop 21 bytes))
+        ++ logged n (drop (21 + field 8 1 bytes) bytes) else []
 
 -- the records of a file: there are no more batches than bytes
 abbrev pub log_in : List ℕ → List (List ℕ)
@@ -33,7 +35,8 @@ begins_at next bytes = slice_index bytes 0 == 1 && field 8 9 bytes == next
 -- they go on from them
 abbrev pub kept_in : ℕ → List ℕ → List ℕ → List (List ℕ)
 kept_in first named other =
-    if begins_at (first + length (log_in named)) other then log_in named ++ log_in other else log_in named
+    if begins_at (first + length (log_in named)) other then log_in named
+        ++ log_in other else log_in named
 
 -- the file that a root's byte doesn't name
 abbrev pub other_file : ℕ → File
@@ -42,7 +45,8 @@ other_file (suc n) = LogA
 
 -- the log of an image whose root names this file and this first number
 abbrev pub kept_log : ℕ → ℕ → Image → List (List ℕ)
-kept_log file first image = kept_in first (content (log_file file) image) (content (other_file file) image)
+kept_log file first image =
+    kept_in first (content (log_file file) image) (content (other_file file) image)
 
 -- a generation that is no more kept: its first gate isn't open, or its first number is below the
 -- root's
@@ -72,7 +76,8 @@ pub record HoldsTwo (file first : ℕ) (bs cs : Batches) (image : Image) : Type 
 -- an image whose root names this file and this number holds a log of these records, whole
 abbrev pub HoldsLog : ℕ → ℕ → List (List ℕ) → Image → Type 0
 HoldsLog file first rs image = ((bs : Batches) × (records bs ≡ rs) × HoldsOne file first bs image)
-    ⊎ ((bs : Batches) × (cs : Batches) × (records bs ++ records cs ≡ rs) × HoldsTwo file first bs cs image)
+    ⊎ ((bs : Batches) × (cs : Batches) × (records bs ++ records cs ≡ rs)
+        × HoldsTwo file first bs cs image)
 
 -- the writer goes on behind the one generation that is kept
 pub record WritesOne (file first : ℕ) (log : Log) (image : Image) : Type 0 where
@@ -178,7 +183,8 @@ pub record BeginsFile (r : List ℕ) (old new : Log) (was now : Image) : Type 0 
 -- but for one file the others are as they were, and a generation in it that was no more kept isn't
 abbrev pub StaysDropped : File → Image → Image → Type 0
 StaysDropped file old new = OtherFilesStay file old new
-    × ((first : ℕ) → 1 ≤ first → IsDropped first (content file old) → IsDropped first (content file new))
+    × ((first : ℕ) → 1 ≤ first → IsDropped first (content file old)
+        → IsDropped first (content file new))
 
 -- the root names a file of the log, and a number that its first record can have
 pub record NamesKept (r : Root) : Type 0 where
@@ -240,5 +246,6 @@ other_byte (suc n) = 0
 -- Where two generations are kept and the root comes to name the newer one, by its first number, a
 -- writer that was behind both goes on behind that one alone.
 abbrev pub Forgets : Log → Log → Type 0
-Forgets old new = (file first : ℕ) (image : Image) → old.older ≡ true → WritesBehind file first old image
+Forgets old new =
+    (file first : ℕ) (image : Image) → old.older ≡ true → WritesBehind file first old image
     → WritesBehind (other_byte file) (field 8 9 (content (other_file file) image)) new image

@@ -31,7 +31,8 @@ abbrev pub frame_checks : ℕ → ℕ → List ℕ → List Check
 frame_checks zero at bytes = []
 frame_checks (suc n) at [] = []
 frame_checks (suc n) at (b ∷ bs) =
-    frame_check at (b ∷ bs) ++ frame_checks n (at + (8 + field 8 0 (b ∷ bs))) (behind_frame (b ∷ bs))
+    frame_check at (b ∷ bs)
+        ++ frame_checks n (at + (8 + field 8 0 (b ∷ bs))) (behind_frame (b ∷ bs))
 
 -- how many frames, n at most, the bytes are
 abbrev pub frames_in : ℕ → List ℕ → ℕ
@@ -42,7 +43,8 @@ frames_in (suc n) (b ∷ bs) = 1 + frames_in n (behind_frame (b ∷ bs))
 -- The first fields of a batch at a gate, from which so many bytes are left to the file's end: the
 -- frames' length leaves room for the next gate, and the first number is the next one.
 abbrev pub head_checks : ℕ → ℕ → ℕ → List ℕ → List Check
-head_checks next gate left head = check_of (gate + 1) (min (left - 22) (field 8 1 head)) (field 8 1 head)
+head_checks next gate left head =
+    check_of (gate + 1) (min (left - 22) (field 8 1 head)) (field 8 1 head)
     ∷ check_of (gate + 9) next (field 8 9 head) ∷ []
 
 -- the count in a batch's head is that of the frames, and there is one
@@ -69,11 +71,14 @@ gate_checks next gate bytes =
 abbrev pub log_checks : ℕ → ℕ → ℕ → List ℕ → List Check
 log_checks next gate zero bytes = []
 log_checks next gate (suc n) bytes =
-    if slice_index bytes 0 == 1 then batch_checks next gate bytes ++ log_checks (next + field 4 17 bytes) (gate + (21 + field 8 1 bytes)) n (drop (21 + field 8 1 bytes) bytes) else []
+    if slice_index bytes 0 == 1 then batch_checks next gate bytes
+        ++ log_checks (next + field 4 17 bytes) (gate + (21 + field 8 1 bytes)) n
+        (drop (21 + field 8 1 bytes) bytes) else []
 
 -- a file whose records are numbered from this LSN on: its first gate is open, then batch by batch
 abbrev pub file_checks : ℕ → List ℕ → List Check
-file_checks first bytes = check_of 0 1 (slice_index bytes 0) ∷ log_checks first 0 (length bytes) bytes
+file_checks first bytes =
+    check_of 0 1 (slice_index bytes 0) ∷ log_checks first 0 (length bytes) bytes
 
 -- damage of a file by the first check that fails
 abbrev pub file_damage : File → ℕ → List ℕ → Result ⊤ StoreFault
@@ -89,7 +94,10 @@ if_passed (Err e) visits = []
 abbrev pub sound_batch_visits : File → ℕ → ℕ → ℕ → List ℕ → List Visit
 sound_batch_visits file lsn gate zero bytes = []
 sound_batch_visits file lsn gate (suc n) bytes =
-    if slice_index bytes 0 == 1 then if_passed (judged file (batch_checks lsn gate bytes)) (frame_visits file lsn (gate + 21) (field 4 17 bytes) (frame_bytes bytes) ++ sound_batch_visits file (lsn + field 4 17 bytes) (gate + (21 + field 8 1 bytes)) n (drop (21 + field 8 1 bytes) bytes)) else []
+    if slice_index bytes 0 == 1 then if_passed (judged file (batch_checks lsn gate bytes))
+        (frame_visits file lsn (gate + 21) (field 4 17 bytes) (frame_bytes bytes)
+        ++ sound_batch_visits file (lsn + field 4 17 bytes) (gate + (21 + field 8 1 bytes)) n
+        (drop (21 + field 8 1 bytes) bytes)) else []
 
 -- The records of a whole file that come before the damage that is told of it.
 abbrev pub sound_visits : File → ℕ → List ℕ → List Visit
@@ -106,7 +114,9 @@ abbrev pub kept_damage : ℕ → ℕ → Image → Result ⊤ StoreFault
 kept_damage file first image =
     let named = content (log_file file) image in
     let other = content (other_file file) image in
-    damage_or (file_damage (log_file file) first named) (if has_newer first named other then file_damage (other_file file) (first + length (log_in named)) other else Ok tt)
+    damage_or (file_damage (log_file file) first named)
+        (if has_newer first named other then file_damage (other_file file)
+        (first + length (log_in named)) other else Ok tt)
 
 -- The records of the log of an image that come before its damage: those of the named file, and
 -- where it has no damage, those of the other one where it goes on from that.
@@ -114,7 +124,10 @@ abbrev pub sound_kept_visits : ℕ → ℕ → Image → List Visit
 sound_kept_visits file first image =
     let named = content (log_file file) image in
     let other = content (other_file file) image in
-    sound_visits (log_file file) first named ++ if_passed (file_damage (log_file file) first named) (if has_newer first named other then sound_visits (other_file file) (first + length (log_in named)) other else [])
+    sound_visits (log_file file) first named
+        ++ if_passed (file_damage (log_file file) first named)
+        (if has_newer first named other then sound_visits (other_file file)
+        (first + length (log_in named)) other else [])
 
 -- damage that was told is this; or the disk failed, or memory was refused
 abbrev pub IsThisDamage : Result ⊤ StoreFault → ReadError → Type 0
@@ -132,7 +145,8 @@ VisitsDamage damage result = MatchResult result (λ _. damage ≡ Ok tt) (OnRead
 
 -- What is said of a file whose bytes are told: where a check failed, no log stands there, and the
 -- first that fails is told; what was read to its end has no damage.
-pub record TellsFile {T E : Type 0} (file : File) (first : ℕ) (bytes : List ℕ) (result : Result T (VisitError E))
+pub record TellsFile {T E : Type 0} (file : File) (first : ℕ) (bytes : List ℕ)
+    (result : Result T (VisitError E))
     : Type 0 where
   pub refused : IfErr result (OnRead (RefusesOrFails file (HasSome first bytes)))
   pub damage : VisitsDamage (file_damage file first bytes) result

@@ -157,7 +157,8 @@ pub record IsEmptied {T E : Type 0} (old new : Log) (result : Result T E) : Type
 
 -- What a flush counts at a place of its file: the clock doesn't go back, the one error is a fault
 -- of the disk, which is counted, and only a batch at the last places of a file counts as a stray.
-pub record CountsFlush {D T : Type 0} (g : Ghosts D) (place : ℕ) (old new : D) (result : Result T StoreFault)
+pub record CountsFlush {D T : Type 0} (g : Ghosts D) (place : ℕ) (old new : D)
+    (result : Result T StoreFault)
     : Type 0 where
   pub refused : OnErr result (result ≡ Err Fault)
   pub later : g.moment_of old ≤ g.moment_of new

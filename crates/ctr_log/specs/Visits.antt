@@ -23,14 +23,18 @@ visit_of lsn file at bytes = record { lsn = lsn; file = file; at = at; bytes = b
 abbrev pub frame_visits : File → ℕ → ℕ → ℕ → List ℕ → List Visit
 frame_visits file lsn at zero bytes = []
 frame_visits file lsn at (suc n) bytes =
-    visit_of lsn file (at + 8) (take (field 8 0 bytes) (drop 8 bytes)) ∷ frame_visits file (lsn + 1) (at + (8 + field 8 0 bytes)) n (drop (8 + field 8 0 bytes) bytes)
+    visit_of lsn file (at + 8) (take (field 8 0 bytes) (drop 8 bytes)) ∷ frame_visits file
+        (lsn + 1) (at + (8 + field 8 0 bytes)) n (drop (8 + field 8 0 bytes) bytes)
 
 -- The records in the bytes from a gate of a file on, numbered from this LSN on: of n open batches
 -- at most, and up to the first closed gate.
 abbrev pub batch_visits : File → ℕ → ℕ → ℕ → List ℕ → List Visit
 batch_visits file lsn gate zero bytes = []
 batch_visits file lsn gate (suc n) bytes =
-    if slice_index bytes 0 == 1 then frame_visits file lsn (gate + 21) (field 4 17 bytes) (take (field 8 1 bytes) (drop 21 bytes)) ++ batch_visits file (lsn + field 4 17 bytes) (gate + (21 + field 8 1 bytes)) n (drop (21 + field 8 1 bytes) bytes) else []
+    if slice_index bytes 0 == 1 then frame_visits file lsn (gate + 21) (field 4 17 bytes)
+        (take (field 8 1 bytes) (drop 21 bytes))
+        ++ batch_visits file (lsn + field 4 17 bytes) (gate + (21 + field 8 1 bytes)) n
+        (drop (21 + field 8 1 bytes) bytes) else []
 
 -- the records of a file, numbered from this LSN on: there are no more batches than bytes
 abbrev pub file_visits : File → ℕ → List ℕ → List Visit
@@ -42,7 +46,9 @@ abbrev pub kept_visits : ℕ → ℕ → Image → List Visit
 kept_visits file first image =
     let named = content (log_file file) image in
     let other = content (other_file file) image in
-    if has_newer first named other then file_visits (log_file file) first named ++ file_visits (other_file file) (first + length (log_in named)) other else file_visits (log_file file) first named
+    if has_newer first named other then file_visits (log_file file) first named
+        ++ file_visits (other_file file) (first + length (log_in named)) other else file_visits
+        (log_file file) first named
 
 -- The bytes of the records that are visited, each by itself.
 abbrev pub visit_bytes : List Visit → List (List ℕ)
@@ -52,7 +58,8 @@ visit_bytes (v ∷ vs) = v.bytes ∷ visit_bytes vs
 -- each of them stands at its place of its file
 abbrev pub AreInPlace : Image → List Visit → Type 0
 AreInPlace image [] = Unit {0}
-AreInPlace image (v ∷ vs) = (take (length v.bytes) (drop v.at (content v.file image)) ≡ v.bytes) × AreInPlace image vs
+AreInPlace image (v ∷ vs) =
+    (take (length v.bytes) (drop v.at (content v.file image)) ≡ v.bytes) × AreInPlace image vs
 
 -- The records visited are numbered from an LSN on, without gaps.
 abbrev pub AreNumbered : ℕ → List Visit → Type 0
@@ -73,7 +80,8 @@ abbrev pub GivesSome : {V : Type 0} → (V → List Visit → Type 0) → V → 
 GivesSome has_seen old new = (given : List Visit) × IsGiven has_seen old new given
 
 -- A visitor was given the first ones of these records, in order.
-pub record GivesPart {V : Type 0} (has_seen : V → List Visit → Type 0) (old new : V) (all : List Visit)
+pub record GivesPart {V : Type 0} (has_seen : V → List Visit → Type 0) (old new : V)
+    (all : List Visit)
     : Type 0 where
   pub given : List Visit
   pub rest : List Visit
@@ -102,7 +110,8 @@ StopsAt has_seen refuses old new sound (Refused e) = RefusesOne has_seen refuses
 abbrev pub Visits : {V T E : Type 0} → (V → List Visit → Type 0)
     → (List Visit → Visit → E → Type 0) → V → V → List Visit → Result T (VisitError E) → Type 0
 Visits has_seen refuses old new sound result =
-    MatchResult result (λ _. IsGiven has_seen old new sound) (StopsAt has_seen refuses old new sound)
+    MatchResult result (λ _. IsGiven has_seen old new sound)
+        (StopsAt has_seen refuses old new sound)
 
 -- where reading ended without a refusal, it ended so
 abbrev pub OnRead : {E : Type 0} → (ReadError → Type 0) → VisitError E → Type 0

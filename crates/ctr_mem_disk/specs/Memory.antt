@@ -99,7 +99,8 @@ abbrev pub recorded_as : Call → MemDisk → Recorded
 recorded_as call d = record {
   call = call;
   outcome =
-      outcome_of (strays_by call || (ticks_by call && nat_le (2 ^ 64 - 1) (moment_at d))) (list_any (λ n. n == raised (counted_calls d)) (failing_calls d));
+      outcome_of (strays_by call || (ticks_by call && nat_le (2 ^ 64 - 1) (moment_at d)))
+          (list_any (λ n. n == raised (counted_calls d)) (failing_calls d));
   moment = if ticks_by call then raised (moment_at d) else moment_at d;
 }
 
@@ -120,5 +121,7 @@ pub record DoesCall {T E : Type 0} (call : Call) (old new : MemDisk) (result : R
   pub counted : counted_calls new ≡ raised (counted_calls old)
   pub first : first_image new ≡ first_image old
   pub listed : failing_calls new ≡ failing_calls old
-  pub goes : IsCallAnswered (recorded_as call old) (recorded_calls old) (recorded_calls new) (starved_calls old) (starved_calls new) result
-      ⊎ IsStarved (recorded_calls old) (recorded_calls new) (starved_calls old) (starved_calls new) result
+  pub goes : IsCallAnswered (recorded_as call old) (recorded_calls old) (recorded_calls new)
+      (starved_calls old) (starved_calls new) result
+      ⊎ IsStarved (recorded_calls old) (recorded_calls new) (starved_calls old)
+          (starved_calls new) result

@@ -74,7 +74,8 @@ pub record SeesTheSame (s : ℕ) (me : Transaction) (old new : State) : Type 0 w
 -- While other sessions act, ask and are answered, what a session sees stays.
 abbrev pub SnapshotsStay : Type 0
 SnapshotsStay =
-    (lines : List Line) (p : Point) (es : List Entry) (s : ℕ) (me : Transaction) → IsSoundState p.state
+    (lines : List Line) (p : Point) (es : List Entry) (s : ℕ) (me : Transaction)
+        → IsSoundState p.state
     → transaction_of p.state s ≡ Some me → OthersOnly s es
     → SeesTheSame s me p.state (final lines p es).state
 

@@ -94,7 +94,8 @@ used_slot_check kinds counted start page = do
 -- a version entry that is used: its pointer and its version
 unfoldable pub used_kept_check : List Kind → ℕ → ℕ → List ℕ → Result ⊤ BadRecord
 used_kept_check kinds counted start page = do
-  pointer ← pointer_check counted (kinds_width kinds) (start + kept_pointer_at (kinds_width kinds)) page
+  pointer ← pointer_check counted (kinds_width kinds)
+      (start + kept_pointer_at (kinds_width kinds)) page
   version_check kinds (start + HEAD_AT) page
 
 -- the slot that begins at a place of the page: of a free one nothing more

@@ -87,4 +87,5 @@ pub record IsEntry (w : ℕ) (e : VersionEntry) : Type 0 where
 pub record PutsBytes (at : ℕ) (bytes a b : List ℕ) (end : ℕ) : Type 0 where
   pub long : length b ≡ length a
   pub ends : end ≡ at + length bytes
-  pub adds : (front old : List ℕ) → at ≡ length front → a ≡ front ++ drop at old → b ≡ (front ++ bytes) ++ drop end old
+  pub adds : (front old : List ℕ) → at ≡ length front → a ≡ front ++ drop at old
+      → b ≡ (front ++ bytes) ++ drop end old

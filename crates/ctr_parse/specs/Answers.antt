@@ -7,7 +7,8 @@ use Rattle.ctr_parse.specs.declared.refusal.ParseRefusal.{ParseRefusal}
 use Rattle.ctr_parse.specs.declared.refusal.ParseRefusal.TheVariants as refusal
 
 -- what was parsed is what the bytes say, and a refusal has its cause: they go wrong at its place
-abbrev pub IsParsed : {X : Type 0} → (List (List ℕ) → X → Type 0) → List ℕ → Result X ParseRefusal → Type 0
+abbrev pub IsParsed : {X : Type 0} → (List (List ℕ) → X → Type 0) → List ℕ
+    → Result X ParseRefusal → Type 0
 IsParsed Spells bytes (Ok x) = Says Spells bytes x
 IsParsed Spells bytes (Err refusal.OutOfMemory) = Unit {0}
 IsParsed Spells bytes (Err (refusal.ParseError at)) = GoesWrongAt Spells bytes at

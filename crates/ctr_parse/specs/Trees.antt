@@ -168,7 +168,8 @@ literal_of t =
 
 -- a number or a text, or a column's name
 unfoldable pub right_of : List ℕ → Option Right
-right_of t = first_some (mapped (λ v. right.Is v) (literal_of t)) (mapped (λ n. right.Of n) (name_of t))
+right_of t =
+    first_some (mapped (λ v. right.Is v) (literal_of t)) (mapped (λ n. right.Of n) (name_of t))
 
 -- whether a comma stands here, or a )
 unfoldable pub comma_or_end : List ℕ → Option Bool

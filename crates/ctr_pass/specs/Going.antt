@@ -14,4 +14,5 @@ WentAs h s t w = IsPosition w.from (site_of s) × TurnsAt h w.from s t w.did
 -- The position at which a turn is taken is the one that was given, where that stayed; and what it
 -- names is there.
 abbrev pub IsFromPosition : Bool → ℕ → Position → Went → Type 0
-IsFromPosition stayed counted at w = (stayed ≡ true → w.from ≡ at) × IsCountedPosition counted w.from
+IsFromPosition stayed counted at w =
+    (stayed ≡ true → w.from ≡ at) × IsCountedPosition counted w.from

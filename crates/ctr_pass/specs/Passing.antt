@@ -64,8 +64,8 @@ abbrev pub pass_on : Bool → Option Position → Pass → Pass
 pass_on may (Some y) p = record p { at = y; phase = if may then p.phase else Disturbed }
 pass_on may None p = record p { at = start; phase = phase_over may p.phase }
 
--- A pass behind a turn: a record disturbs it, and so does a position at which it wasn't seen whether
--- there is anything to do.
+-- A pass behind a turn: a record disturbs it, and so does a position at which it wasn't seen
+-- whether there is anything to do.
 abbrev pub pass_behind : Pass → Position → CleanTurn → Bool → ℕ → Pass
 pass_behind p from did.Cleaned may next = record p { at = from; next = next; phase = Disturbed }
 pass_behind p from did.Unlinked may next = record p { at = from; next = next; phase = Disturbed }

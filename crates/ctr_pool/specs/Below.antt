@@ -15,7 +15,8 @@ pub record PutsPage {B : Type 0} (held : B → ℕ → PageHeld)
     (may_be_saved : B → ℕ → ℕ → PageHeld → Type 0) (p : ℕ) (v : PageHeld) (a b : B) : Type 0 where
   pub there : held b p ≡ v
   pub others : (q : ℕ) → q ≢ p → held b q ≡ held a q
-  pub still : (q since : ℕ) (w : PageHeld) → q ≢ p → may_be_saved a q since w → may_be_saved b q since w
+  pub still : (q since : ℕ) (w : PageHeld) → q ≢ p → may_be_saved a q since w
+      → may_be_saved b q since w
 
 -- What a load found of a page: it was given, so that the page is well; or this is wrong with it.
 -- Of a fault nothing is known.

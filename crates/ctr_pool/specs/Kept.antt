@@ -30,7 +30,8 @@ AreOrdered (e ∷ es) = AllAbove e.0 es × AreOrdered es
 -- Each frame's page has the frame's place, and a page that has a place is the page of the frame
 -- there.
 pub record ArePlaced (es : List (ℕ × ℕ)) (fs : List Frame) : Type 0 where
-  pub each : (at : ℕ) (d : Frame) → at < length fs → place_of (slice_index_or fs at d).page es ≡ Some at
+  pub each : (at : ℕ) (d : Frame) → at < length fs
+      → place_of (slice_index_or fs at d).page es ≡ Some at
   pub inside : (p at : ℕ) → place_of p es ≡ Some at → at < length fs
   pub page : (p at : ℕ) (d : Frame) → place_of p es ≡ Some at → (slice_index_or fs at d).page ≡ p
 

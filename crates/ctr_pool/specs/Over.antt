@@ -30,7 +30,8 @@ pub record IsOver {B : Type 0} (g : Ghosts B) (fs : List Frame) (b : B) : Type 0
 
 -- each page is as it was: what the backing holds, with the changes since
 abbrev pub ShowsSamePages : {B : Type 0} → Ghosts B → List Frame → B → List Frame → B → Type 0
-ShowsSamePages g old a new b = (q : ℕ) → page_shown new q (g.held b q) ≡ page_shown old q (g.held a q)
+ShowsSamePages g old a new b =
+    (q : ℕ) → page_shown new q (g.held b q) ≡ page_shown old q (g.held a q)
 
 -- over the backing still, where it was, with each page as it was
 pub record StaysOver {B : Type 0} (g : Ghosts B) (old : List Frame) (a : B) (new : List Frame)

@@ -24,15 +24,19 @@ pub record IsPart (old text new waiting : List ℕ) (fine : Bool) : Type 0 where
 
 -- The printer was begun on this sink, and this text is what it has printed since. Where it is no
 -- longer well a put has failed, and was counted.
-pub record HasPrinted {K : Type 0} (g : Ghosts K) (start : K) (text : List ℕ) (p : Printer K) : Type 0 where
-  pub told : IsTrue g.tells → IsPart (g.taken start) text (g.taken p.sink.now) p.waiting.items p.fine
+pub record HasPrinted {K : Type 0} (g : Ghosts K) (start : K) (text : List ℕ)
+    (p : Printer K) : Type 0 where
+  pub told : IsTrue g.tells
+      → IsPart (g.taken start) text (g.taken p.sink.now) p.waiting.items p.fine
   pub calm : p.fine ≡ true → g.faults_of p.sink.now ≡ g.faults_of start
   pub cause : p.fine ≡ false → CountsFault (g.faults_of start) (g.faults_of p.sink.now)
 
 -- the text is printed behind what was, on the same sink
-pub record PrintsMore {K : Type 0} (g : Ghosts K) (text : List ℕ) (old new : Printer K) : Type 0 where
+pub record PrintsMore {K : Type 0} (g : Ghosts K) (text : List ℕ)
+    (old new : Printer K) : Type 0 where
   pub same_reference : new.sink.ghost_name ≡ old.sink.ghost_name
-  pub adds : (start : K) (before : List ℕ) → HasPrinted g start before old → HasPrinted g start (before ++ text) new
+  pub adds : (start : K) (before : List ℕ) → HasPrinted g start before old
+      → HasPrinted g start (before ++ text) new
 
 -- What a sink has taken before and after a text was printed on it: all of it where that is done,
 -- else a prefix, and a put has failed and was counted.
@@ -44,7 +48,8 @@ pub record PutsOn {K : Type 0} (g : Ghosts K) (old : K) (text : List ℕ) (new :
   pub cause : done ≡ false → CountsFault (g.faults_of old) (g.faults_of new)
 
 -- Bytes are sent to a sink unless all was no longer well before: then nothing is put.
-pub record Sends {K : Type 0} (g : Ghosts K) (old : K) (fine : Bool) (bytes : List ℕ) (new : K) (done : Bool)
+pub record Sends {K : Type 0} (g : Ghosts K) (old : K) (fine : Bool) (bytes : List ℕ) (new : K)
+    (done : Bool)
     : Type 0 where
   pub puts : fine ≡ true → PutsOn g old bytes new done
   pub stays : fine ≡ false → (done ≡ false) × (new ≡ old)

@@ -55,7 +55,8 @@ owner_of page = field 1 OWNER_AT page
 abbrev pub table_check : ℕ → ℕ → (ℕ → List ℕ) → ℕ → Result ⊤ BadChain
 table_check kind counted pages p =
     told_of p (owner_check kind counted p (pages p))
-    >>= λ _. told_of (1 + owner_of (pages p) / 16) (catalog_check counted pages (owner_of (pages p)))
+    >>= λ _. told_of (1 + owner_of (pages p) / 16)
+        (catalog_check counted pages (owner_of (pages p)))
 
 -- ---- what is found
 

@@ -34,8 +34,8 @@ key_of_slot s = if s.used == 1 then Some s.key else None
 abbrev pub key_there : Slot → Option ℤ
 key_there slot = if slot.used then Some slot.key else None
 
--- This is the key of the slot of a number on a page of a table, and where it has none, it passes its
--- check; or it doesn't.
+-- What a look at the slot of a number on a page of a table tells: its key, and that it passes its
+-- check where it has none; or the damage of a slot that fails.
 abbrev pub KeySaid : ℕ → TableOf → ℕ → List ℕ → Result (Option ℤ) BadRecord → Type 0
 KeySaid counted t number page (Ok key) =
     (key ≡ None → row_on_check counted t.entry (kinds_said t) number page ≡ Ok tt)

@@ -13,7 +13,8 @@ use Rattle.ctr_rec.specs.Parts.{form_of}
 -- the number and the two fields
 abbrev pub field_bytes : Layout → ℕ → ℕ → List ℕ
 field_bytes l first second =
-    spelled 1 l.number ++ spelled (bytes_of_field l.first) first ++ spelled (bytes_of_field l.second) second
+    spelled 1 l.number ++ spelled (bytes_of_field l.first) first
+        ++ spelled (bytes_of_field l.second) second
 
 -- where an overlay lies: its page, its place in it, its length
 abbrev pub place_bytes : List ℕ → ℕ → Overlay → List ℕ

@@ -53,7 +53,8 @@ pub record IsSound (root : Root) (image : Image) : Type 0 where
   pub begins : FilesBegin root.file root.first image
   pub continues : TablesGoOn (kept_log root.file root.first image)
   pub below : LieBelow (next_of (stored_in root image)) (home_in root.pages image)
-  pub numbered : (p : ℕ) (v : BlockValue) → p < root.pages → value_of (Page p) image ≡ Some v → v.number ≡ p
+  pub numbered : (p : ℕ) (v : BlockValue) → p < root.pages → value_of (Page p) image ≡ Some v
+      → v.number ≡ p
   pub size : 8256 * root.pages ≤ length (content Pages image)
 
 -- the image is sound and folds to a state
@@ -113,7 +114,8 @@ other_log root image = log_in (content (other_file root.file) image)
 -- A second generation can begin with this record: one alone is kept, and the record fits behind it
 -- and is a Checkpoint that leaves the tables as they are.
 pub record MayBeginSecond (root : Root) (bytes : List ℕ) (image : Image) : Type 0 where
-  pub one : has_newer root.first (content (log_file root.file) image) (content (other_file root.file) image)
+  pub one : has_newer root.first (content (log_file root.file) image)
+      (content (other_file root.file) image)
       ≡ false
   pub fits : EachFits root.pages no_tables (kept_log root.file root.first image ++ bytes ∷ [])
   pub number : field 1 0 bytes ≡ 1
@@ -129,7 +131,8 @@ newer_root start r =
 -- The older of two generations can be dropped: the newer one begins with this LSN, behind the older
 -- one's records, and each page's home has these.
 pub record CanDropOlder (root : Root) (start : ℕ) (image : Image) : Type 0 where
-  pub two : has_newer root.first (content (log_file root.file) image) (content (other_file root.file) image)
+  pub two : has_newer root.first (content (log_file root.file) image)
+      (content (other_file root.file) image)
       ≡ true
   pub start_is : start ≡ root.first + length (named_log root image)
   pub high : start ≤ 2 ^ 63

@@ -49,4 +49,5 @@ overlaid p lsn (r ∷ rs) h = overlaid p (lsn + 1) rs (with_record p lsn r h)
 abbrev pub by_home : ℕ → ℕ → ℕ → List Record → List ℕ → List ℕ
 by_home p stamp lsn [] body = body
 by_home p stamp lsn (r ∷ rs) body =
-    by_home p stamp (lsn + 1) rs (if touches r p && nat_lt stamp lsn then changed_by r body else body)
+    by_home p stamp (lsn + 1) rs
+        (if touches r p && nat_lt stamp lsn then changed_by r body else body)

@@ -15,6 +15,7 @@ use Rattle.ctr_run.specs.Running.{opened_on}
 pub record CountsAsked {D : Type 0} (g : Ghosts D) (old : D) (lines : List Line) (asked : Bool)
     (r : Ran D) : Type 0 where
   pub counted : (s : State) → IsTrue g.tells → StandsForDatabase (g.reads old) s → asked ≡ true
-      → r.end ≡ Finished → AreTotals (rows_asked (opened_on g old lines) s r.left.tape.entries) r.left.totals
+      → r.end ≡ Finished
+          → AreTotals (rows_asked (opened_on g old lines) s r.left.tape.entries) r.left.totals
   pub unasked : asked ≡ false → r.left.totals ≡ no_totals
   pub unfinished : r.end ≢ Finished → r.left.totals ≡ no_totals

@@ -102,7 +102,8 @@ StopsFor g old (stop.Worn lsn) = 2 ^ 63 - 1 ≤ lsn
 abbrev pub EndsRunFor : {D : Type 0} → Ghosts D → D → D → RunEnd → Type 0
 EndsRunFor g old new Finished = (g.faults_of new ≡ g.faults_of old)
     × (IsTrue g.tells → PassesOpening (g.reads old))
-EndsRunFor g old new (Unopened e) = RefusesWith g old e new × (IsTrue g.tells → RefusesWorld (g.reads old) e)
+EndsRunFor g old new (Unopened e) =
+    RefusesWith g old e new × (IsTrue g.tells → RefusesWorld (g.reads old) e)
 EndsRunFor g old new (Stopped s) = StopsBy (Some s) (g.faults_of old) (g.faults_of new)
     × (IsTrue g.tells → PassesOpening (g.reads old)) × StopsFor g old s
 

@@ -69,7 +69,8 @@ pub record DecideAnswer (bytes : List ℕ) (result : Result Script ScriptError) 
 -- Each refusal with its cause: what the source has left, where it tells that, is refused at this
 -- place, or is too long; a call of the source failed; or memory ran out.
 abbrev pub ErrorHasCause : {S : Type 0} → Ghosts S → S → ScriptError → Type 0
-ErrorHasCause g source (error.Refused line at) = IsTrue g.tells → IsShortRefusal (g.left source) line at
+ErrorHasCause g source (error.Refused line at) =
+    IsTrue g.tells → IsShortRefusal (g.left source) line at
 ErrorHasCause g source error.TooLong = IsTrue g.tells → most_bytes < length (g.left source)
 ErrorHasCause g source error.ReadFault = Unit {0}
 ErrorHasCause g source error.OutOfMemory = Unit {0}

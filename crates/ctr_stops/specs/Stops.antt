@@ -23,7 +23,8 @@ pub record StandsForRows (image : Image) (rows : Database) : Type 0 where
 
 -- The image stands for the base with the first k of the transactions that asked, of this many at
 -- least.
-pub record HasFirstCommits (base : Database) (asked : List (List Change)) (least : ℕ) (image : Image)
+pub record HasFirstCommits (base : Database) (asked : List (List Change)) (least : ℕ)
+    (image : Image)
     : Type 0 where
   pub k : ℕ
   pub at_least : least ≤ k

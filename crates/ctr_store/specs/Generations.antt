@@ -87,7 +87,8 @@ pub record AddsCheckpoint {D : Type 0} (g : Ghosts D) (a b : View D) : Type 0 wh
 
 -- Where the tables don't meet the need of a Checkpoint, it is refused by the row that they fail, at
 -- the place where it would stand, or for want of memory; and nothing has changed.
-abbrev pub RefusesCheckpoint : {D : Type 0} → BadRecord → View D → View D → Result Generation StoreFault → Type 0
+abbrev pub RefusesCheckpoint : {D : Type 0} → BadRecord → View D → View D
+    → Result Generation StoreFault → Type 0
 RefusesCheckpoint bad a b (Ok Begun) = ⊥
 RefusesCheckpoint bad a b (Ok OutOfMemory) = b ≡ a
 RefusesCheckpoint bad a b (Err e) = (b ≡ a) × (e ≡ record_damage (next_file a.file) 29 bad)
@@ -97,7 +98,8 @@ RefusesCheckpoint bad a b (Err e) = (b ≡ a) × (e ≡ record_damage (next_file
 -- An older generation is kept, and no page has been changed since before the current one began that
 -- isn't home.
 abbrev pub CanEnd : {D : Type 0} → View D → Type 0
-CanEnd v = (v.older ≡ true) × ((p since : ℕ) → first_unsaved p v.held ≡ Some since → v.start ≤ since)
+CanEnd v =
+    (v.older ≡ true) × ((p since : ℕ) → first_unsaved p v.held ≡ Some since → v.start ≤ since)
 
 -- so it is of the parts
 abbrev pub CanDrop : {D O : Type 0} → Parts D O → Type 0
@@ -107,7 +109,8 @@ CanDrop s = (s.base.log.older ≡ true)
 -- the older one isn't kept any more; all else is as it was, but for the disk and what it folds to
 abbrev pub ForgetsOlder : {D : Type 0} → View D → View D → Type 0
 ForgetsOlder a b =
-    (b ≡ record a { disk = b.disk; hardened = b.hardened; now = b.now; older = false; stopped = b.stopped })
+    (b ≡ record a { disk = b.disk; hardened = b.hardened; now = b.now; older = false;
+        stopped = b.stopped })
     × (b.now.counted ≡ a.now.counted)
 
 -- how its end leaves a store, by the answer

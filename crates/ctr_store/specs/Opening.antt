@@ -99,7 +99,8 @@ pub record FindsFront (image : Image) (root : Root) (f : Found) : Type 0 where
 
 -- What was opened stands over the pool, with this root; where the first image was sound it is the
 -- fold of its records, and none waits.
-pub record OpensParts {D O : Type 0} (first : Image) (g : Ghosts D) (root : Root) (s : Parts D O) : Type 0
+pub record OpensParts {D O : Type 0} (first : Image) (g : Ghosts D) (root : Root)
+    (s : Parts D O) : Type 0
   where
     pub root_is : s.base.root ≡ root
     pub none : s.base.log.buffered ≡ []
@@ -127,7 +128,8 @@ worn_at = 4611686018427387904
 
 -- the next LSN where it is worn, or else the next transaction
 abbrev pub worn_by : ℕ → ℕ → Option ℕ
-worn_by next xid = if nat_lt next worn_at then (if nat_lt xid worn_at then None else Some xid) else Some next
+worn_by next xid =
+    if nat_lt next worn_at then (if nat_lt xid worn_at then None else Some xid) else Some next
 
 -- An opening is refused as worn by a number; or isn't, where there is no such number.
 abbrev pub IsWornBy : {T D : Type 0} → Option ℕ → Result T (OpenError × D) → Type 0
@@ -177,13 +179,15 @@ abbrev pub RefusesAs : Image → OpenError → Type 0
 RefusesAs image open_error.NoDatabase = value_of RootBlock image ≡ None
 RefusesAs image (open_error.Damaged d) = (value_of RootBlock image ≢ None)
     × IsOpenDamage image (store.Damaged d)
-RefusesAs image (open_error.Worn n) = (root : Root) × FindsRoot image (Some root) × LogPasses root image
+RefusesAs image (open_error.Worn n) =
+    (root : Root) × FindsRoot image (Some root) × LogPasses root image
     × OverlaidPass root image × (worn_in root image ≡ Some n)
 RefusesAs image open_error.Fault = Unit {0}
 RefusesAs image open_error.OutOfMemory = value_of RootBlock image ≢ None
 
 -- An opening answers with what stands on the first image, which isn't worn; or it refuses that.
-abbrev pub AnswersOpen : {D O : Type 0} → Image → Ghosts D → Result (Parts D O) (OpenError × D) → Type 0
+abbrev pub AnswersOpen : {D O : Type 0} → Image → Ghosts D → Result (Parts D O) (OpenError × D)
+    → Type 0
 AnswersOpen first g (Ok s) = FindsRoot first (Some s.base.root)
     × OpensParts first g s.base.root s × (worn_in s.base.root first ≡ None)
 AnswersOpen first g (Err e) = RefusesAs first e.0

@@ -62,7 +62,8 @@ pub record IsHighFrame {D O : Type 0} (g : Ghosts D) (p : ℕ) (s : Parts D O) (
 
 -- A page that no frame had was read at home: it passes its checks; or one fails, that of its number
 -- or behind it that of its stamp.
-abbrev pub ReadsPage : {D O T : Type 0} → Image → Ghosts D → ℕ → Parts D O → Parts D O → Result T StoreFault → Type 0
+abbrev pub ReadsPage : {D O T : Type 0} → Image → Ghosts D → ℕ → Parts D O → Parts D O
+    → Result T StoreFault → Type 0
 ReadsPage first g p s t result =
     let image = g.reads t.base.disk in
     MatchResult result (λ _. PassesHome (next_in t) p image × IsHomeStill g p s t)
@@ -75,7 +76,9 @@ ReadsPage first g p s t result =
 pub record FindsPage {D O T : Type 0} (first : Image) (g : Ghosts D) (p : ℕ) (s t : Parts D O)
     (result : Result T StoreFault) : Type 0 where
   pub hit : has_page p s.pool.frames ≡ true
-      → IfErr result (IsFaultOr (λ e. next_in t ≤ (page_shown s.pool.frames p (home_of g s.base p)).lsn))
+      → IfErr result (IsFaultOr
+          (λ e. next_in t ≤ (page_shown s.pool.frames p (home_of g s.base p)).lsn))
   pub miss : has_page p s.pool.frames ≡ false → p < t.base.root.pages → 1 ≤ next_in t
       → ReadsPage first g p s t result
-  pub others : OnOk result ((q : ℕ) → q ≢ p → has_page q s.pool.frames ≡ false → has_page q t.pool.frames ≡ false)
+  pub others : OnOk result
+      ((q : ℕ) → q ≢ p → has_page q s.pool.frames ≡ false → has_page q t.pool.frames ≡ false)

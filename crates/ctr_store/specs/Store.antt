@@ -75,7 +75,8 @@ pub record WritesOldest {D : Type 0} (a b : View D) : Type 0 where
   pub since : ℕ
   pub changed : first_unsaved page a.held ≡ Some since
   pub least : (q s : ℕ) → first_unsaved q a.held ≡ Some s → since ≤ s
-  pub others : (q : ℕ) → first_unsaved q b.held ≡ (if page == q then None else first_unsaved q a.held)
+  pub others : (q : ℕ)
+      → first_unsaved q b.held ≡ (if page == q then None else first_unsaved q a.held)
   pub frames : b.frames ≡ a.frames + 1
 
 -- the frames are as they were

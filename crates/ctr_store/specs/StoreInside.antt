@@ -49,4 +49,5 @@ pub record IsStore {D O : Type 0} (first : Image) (g : Ghosts D) (a : Inside D O
       → Recalls g a.parts a.directory
   pub buffer : HasBuffer a.parts.base.log
   pub counted : MayCount a.parts.base.root.pages
-  pub numbers : NumbersLow (a.parts.base.log.first + length a.parts.base.log.buffered) a.parts.meta.tables
+  pub numbers : NumbersLow (a.parts.base.log.first + length a.parts.base.log.buffered)
+      a.parts.meta.tables

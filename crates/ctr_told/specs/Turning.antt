@@ -24,7 +24,8 @@ IdleCountsOn me more facts = ((0 < me) × AreTables more × (facts ≡ facts_idl
 
 -- A turn of a session in a transaction, in a World: it tells an act of the session's statement, at
 -- the moment at which it ends.
-pub record TellsTurnOf {D : Type 0} (g : Ghosts D) (c : Start) (opened : D) (a b : View D) (w : Mind)
+pub record TellsTurnOf {D : Type 0} (g : Ghosts D) (c : Start) (opened : D) (a b : View D)
+    (w : Mind)
     (s : ℕ) : Type 0 where
   pub keeps : KeepsWorld g c opened a w
   pub seat : InTransaction c w s

@@ -247,7 +247,8 @@ pub record MindsWords {D S : Type 0} (s : Source S) (asked : Option Subcommand) 
   pub usage : e.ending ≡ ending.Usage → asked ≡ None
   pub none : asked ≡ None → (e.ending ≡ ending.Usage) ⊎ (e.ending ≡ ending.OutOfMemory)
   pub untouched : asked ≡ None → (e.left.disk ≡ old) × IsUnrun e.left
-  pub only_run_reads : ((frames : ℕ) (threads : Bool) → asked ≡ Some (subcommand.Run frames threads) → ⊥)
+  pub only_run_reads : ((frames : ℕ) (threads : Bool)
+      → asked ≡ Some (subcommand.Run frames threads) → ⊥)
       → source_new ≡ source
 
 -- ---- the text

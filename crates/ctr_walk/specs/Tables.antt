@@ -99,7 +99,8 @@ first_of_chain area chain = first_among (area.firsts (chain_entry chain)) chain
 abbrev pub EndsChain : ℕ → (ℕ → List ℕ) → Chain → EndsByKinds → Result (Option Place) BadChain
     → Type 0
 EndsChain counted pages chain ends result =
-    ((bad : BadRecord) × (chain_table_check counted chain (pages (1 + chain_entry chain / 16)) ≡ Err bad)
+    ((bad : BadRecord)
+        × (chain_table_check counted chain (pages (1 + chain_entry chain / 16)) ≡ Err bad)
     × (result ≡ Err (OnPage (1 + chain_entry chain / 16) bad)))
     ⊎ ((chain_table_check counted chain (pages (1 + chain_entry chain / 16)) ≡ Ok tt)
     × EndsAlong (chain_sought pages counted chain ends) pages (most_in_chain counted) 0

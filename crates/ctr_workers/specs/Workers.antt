@@ -18,7 +18,8 @@ has_session_bit sessions session = nat_eq (sessions / 2 ^ (session - 1) % 2) 1
 
 -- Asked for are the sessions whose bits are set, and each other actor.
 abbrev pub IsAskedFor : ℕ → Actor → Type 0
-IsAskedFor sessions (actor.Session session) = IsActor (actor.Session session) × (has_session_bit sessions session ≡ true)
+IsAskedFor sessions (actor.Session session) =
+    IsActor (actor.Session session) × (has_session_bit sessions session ≡ true)
 IsAskedFor _ actor.Flusher = Unit {0}
 IsAskedFor _ actor.Cleaner = Unit {0}
 IsAskedFor _ actor.Undo = Unit {0}

@@ -47,7 +47,8 @@ AreReleases es = (length es ≤ 1) × AllByRecursion IsReleaseEntry es
 -- The entries of a turn: of a session's act, or answers; of undo's item; and behind these the
 -- answers of all commits that it made durable. The flusher and the cleaner answer alone.
 abbrev pub AreEntriesBy : Actor → List Entry → Type 0
-AreEntriesBy (actor.Session s) es = (own : List Entry) × (answers : List Entry) × (es ≡ own ++ answers)
+AreEntriesBy (actor.Session s) es =
+    (own : List Entry) × (answers : List Entry) × (es ≡ own ++ answers)
     × AreOfTurn s own × AreAnswers answers
 AreEntriesBy actor.Undo es = (own : List Entry) × (answers : List Entry) × (es ≡ own ++ answers)
     × AreReleases own × AreAnswers answers
@@ -75,7 +76,8 @@ AreSessionsBehind None moment h now = now ≡ h
 AreSessionsBehind (Some name) moment h now = IsReleased name moment h now
 
 -- What is undone takes the name of its table with it: that is released, where no other item has it.
-pub record LetsNameGo (undone : UndoItem) (moment : ℕ) (names left : List (List ℕ)) (h now : Sessions)
+pub record LetsNameGo (undone : UndoItem) (moment : ℕ) (names left : List (List ℕ))
+    (h now : Sessions)
     : Type 0 where
   pub told : Option (List ℕ)
   pub goes : NameGoes undone names left told

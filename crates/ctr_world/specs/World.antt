@@ -144,7 +144,8 @@ rows_asked o s es = after_all (led_to o s es).state.asked (led_to o s es).state.
 -- that was answered by then, or, before the first entry, what it might have left at the start.
 abbrev pub LeavesPrefix : {D B : Type 0} → Opening B → Ghosts D → State → D → List Entry → Type 0
 LeavesPrefix o g s disk es =
-    LeftSince g o.start disk (LeavesPrefixAt o.before (start_in o s).base (led_to o s es).state.asked es)
+    LeftSince g o.start disk
+        (LeavesPrefixAt o.before (start_in o s).base (led_to o s es).state.asked es)
 
 -- ---- both
 
@@ -176,7 +177,8 @@ pub record Kept {D B : Type 0} (o : Opening B) (first : Image) (g : Ghosts D) (w
         → IsLegalTape o s (g.moment_of w.running.store.disk) w.running.sessions.tape.items
     pub sized : (s : State) → IsTrue g.tells → StandsForDatabase first s
         → w.running.size ≡ undo_size s.tables
-    pub undamaged : (s : State) → IsTrue g.tells → StandsForDatabase first s → IsUndamagedStop w.stop
+    pub undamaged : (s : State) → IsTrue g.tells → StandsForDatabase first s
+        → IsUndamagedStop w.stop
     -- at each moment until a stop a crash left a prefix of the commit order
     pub left : (s : State) → IsTrue g.tells → StandsForDatabase first s → w.stop ≢ None
         → LeavesPrefix o g s w.running.store.disk w.running.sessions.tape.items
