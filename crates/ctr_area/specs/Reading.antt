@@ -128,7 +128,7 @@ abbrev pub older_on : (ℕ → List ℕ) → Place → Older
 older_on pages at =
     if (header_on pages at.page).kind == 2 then
     older_said (columns_on pages at.page)
-        (older_at (width_on pages at.page) at.slot (pages at.page))
+    (older_at (width_on pages at.page) at.slot (pages at.page))
     else free_older
 
 -- the area of pages, by their bytes

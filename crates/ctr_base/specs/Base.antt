@@ -49,7 +49,7 @@ pub record MaySave {D O : Type 0} (g : Ghosts D) (b : Base D O) (p since : ℕ) 
   pub low : v.lsn < next_of (now_of g b)
   pub is : (v ≡ overlaid p b.root.first (now_of g b).records (home_of g b p))
       ⊎ (overlaid p b.root.first (stored_of g b).records v
-          ≡ overlaid p b.root.first (stored_of g b).records (home_of g b p))
+      ≡ overlaid p b.root.first (stored_of g b).records (home_of g b p))
   pub early : since < next_of (now_of g b)
   pub behind : overlaid p b.root.first (take (since - b.root.first) (now_of g b).records)
       (home_of g b p)

@@ -80,8 +80,8 @@ pub writes_holds : (file first : ℕ) (log : Log) (image : Image)
 writes_holds file first log image w =
     let same = front_same file first log image [] log.older w.by in
     subst (λ (l : List (List ℕ)). HoldsLog file first l image)
-        (ap (λ (l : List (List ℕ)). kept_log file first image ++ l) (take-nil same.count)
-        ∙ append-nil (kept_log file first image)) same.holds
+    (ap (λ (l : List (List ℕ)). kept_log file first image ++ l) (take-nil same.count)
+    ∙ append-nil (kept_log file first image)) same.holds
 
 -- the writer goes on where the files of the log are as they were
 pub goes_on_same : {first : ℕ} {bs : Batches} (log : Log) (old new : Image)
@@ -98,8 +98,8 @@ by_same : (older : Bool) (file first : ℕ) (log : Log) (old new : Image) → Ke
     → WritesBy older file first log old → WritesBy older file first log new
 by_same false file first log old new same w =
     let here : content log.file new ≡ content log.file old =
-        subst (λ (f : File). content f new ≡ content f old) (sym w.file_is)
-        (named_same file old new same) in
+    subst (λ (f : File). content f new ≡ content f old) (sym w.file_is)
+    (named_same file old new same) in
     record {
       bs = w.bs;
       file_is = w.file_is;
@@ -114,8 +114,8 @@ by_same false file first log old new same w =
 by_same true file first log old new same w =
     let next = first + length (records w.bs) in
     let here : content log.file new ≡ content log.file old =
-        subst (λ (f : File). content f new ≡ content f old) (sym w.file_is)
-        (other_same file old new same) in
+    subst (λ (f : File). content f new ≡ content f old) (sym w.file_is)
+    (other_same file old new same) in
     record {
       bs = w.bs;
       cs = w.cs;
@@ -151,8 +151,10 @@ gate_in file first log image w = by log.older w.by
 pub writes_same : (root : Root) (log : Log) (old new : Image) → KeepsLogs old new
     → WritesBehind root.file root.first log old → WritesBehind root.file root.first log new
 writes_same root log old new same w =
-    record { numbered = w.numbered;
-    by = by_same log.older root.file root.first log old new same w.by }
+    record {
+      numbered = w.numbered;
+      by = by_same log.older root.file root.first log old new same w.by;
+    }
 
 -- a file of the log is as it was, where both are
 pub log_content : (f : File) (old new : Image) → IsLogFile f → KeepsLogs old new
@@ -168,10 +170,12 @@ home_same : (counted q : ℕ) (old new : Image) → content Pages new ≡ conten
 home_same counted q old new same =
     ap
     (λ (bytes : List ℕ).
-    record { lsn = (if nat_lt q counted then page_with (value_in (Page q) bytes)
-        else blank_page).lsn;
-        body = (if nat_lt q counted then page_with (value_in (Page q) bytes)
-        else blank_page).bytes })
+    record {
+      lsn = (if nat_lt q counted then page_with (value_in (Page q) bytes)
+          else blank_page).lsn;
+      body = (if nat_lt q counted then page_with (value_in (Page q) bytes)
+          else blank_page).bytes;
+    })
     same
 
 -- a page as the value of its block
@@ -181,9 +185,14 @@ value p v = with_body (Page p) v.lsn v.body
 module _ {D O : Type 0} (g : Ghosts D) where
   none_folds : (b : Base D O) (c : Image) → IsQuiet g b → c ≡ g.reads b.disk
       → FoldsFront (state_of (stored_of g b)) (waiting_of b) c
-  none_folds b c quiet is =
-      (0, record { root = b.root; sound = subst (IsSound b.root) (sym is) quiet.sound;
-      state_is = ap (λ (i : Image). state_of (stored_in b.root i)) is })
+  none_folds b c quiet is = (
+    0,
+    record {
+      root = b.root;
+      sound = subst (IsSound b.root) (sym is) quiet.sound;
+      state_is = ap (λ (i : Image). state_of (stored_in b.root i)) is;
+    },
+  )
 
   -- ---- nothing happens
 
@@ -212,8 +221,8 @@ module _ {D O : Type 0} (g : Ghosts D) where
   same_moves a b root stored log =
       let waits = ap (λ (l : Log). l.buffered) log in
       let both : now_of g b ≡ now_of g a =
-          ap (λ (l : List (List ℕ)). with_more (records_in l) (stored_of g b)) waits
-          ∙ ap (with_more (waiting_of a)) stored in
+      ap (λ (l : List (List ℕ)). with_more (records_in l) (stored_of g b)) waits
+      ∙ ap (with_more (waiting_of a)) stored in
       record {
         j = 0;
         at_most = omega arith;
@@ -244,8 +253,8 @@ module _ {D O : Type 0} (g : Ghosts D) where
       let Q : Image → Type 0 = FoldsFront (state_of (stored_of g b)) (waiting_of b) in
       let within : (i : Image) → Q i → P i = λ i q.
       front_of_rest m.j ws s i
-          (subst (λ (l : List Record). FoldsFront (steps (take m.j ws) s) l i) m.waiting
-          (subst (λ (t : State). FoldsFront t (waiting_of b) i) m.hardened q)) in
+      (subst (λ (l : List Record). FoldsFront (steps (take m.j ws) s) l i) m.waiting
+      (subst (λ (t : State). FoldsFront t (waiting_of b) i) m.hardened q)) in
       let further : (i : Image) → HasGate b.log i → HasGate a.log i = λ i long.
       omega (arith, long, m.place, ap (λ (f : File). length (content f i)) m.file) in
       let gate = weaker g b.disk c.disk (HasGate b.log) (HasGate a.log) bc.gate further in
@@ -264,15 +273,20 @@ module _ {D O : Type 0} (g : Ghosts D) where
         at_most =
             let one = m.at_most in
             let two = n.at_most in
-            omega (arith, one, two, ap (λ (l : List Record). length l) m.waiting,
-            length-drop m.j ws);
+            omega (
+              arith,
+              one,
+              two,
+              ap (λ (l : List Record). length l) m.waiting,
+              length-drop m.j ws,
+            );
         waiting = n.waiting ∙ ap (λ (l : List Record). drop n.j l) m.waiting ∙ drop-drop n.j m.j ws;
         hardened =
             n.hardened
             ∙ ap (λ (l : List Record). steps (take n.j l) (state_of (stored_of g b))) m.waiting
             ∙ ap (steps (take n.j (drop m.j ws))) m.hardened
             ∙ sym (steps-append (take m.j ws) (take n.j (drop m.j ws)) s)
-                ∙ ap (λ (l : List Record). steps l s) (take_split m.j n.j ws);
+            ∙ ap (λ (l : List Record). steps l s) (take_split m.j n.j ws);
         now = n.now ∙ m.now;
         root = n.root ∙ m.root;
         file = n.file ∙ m.file;
@@ -315,8 +329,8 @@ module _ {D O : Type 0} (g : Ghosts D) where
       → MaySave g b p since v
   saves_same a b p since v root stored waits may =
       let both : now_of g b ≡ now_of g a =
-          ap (λ (l : List (List ℕ)). with_more (records_in l) (stored_of g b)) waits
-          ∙ ap (with_more (waiting_of a)) stored in
+      ap (λ (l : List (List ℕ)). with_more (records_in l) (stored_of g b)) waits
+      ∙ ap (with_more (waiting_of a)) stored in
       record {
         counted = subst (λ (s : Stored). p < s.counted) (sym stored) may.counted;
         above = subst (λ (s : Stored). (s.homes p).lsn < v.lsn) (sym stored) may.above;
@@ -325,8 +339,8 @@ module _ {D O : Type 0} (g : Ghosts D) where
             ⊎_elim (λ all. inl
             (subst (λ (s : Stored). v ≡ overlaid p s.first s.records (s.homes p)) (sym both) all))
             (λ same. inr (subst
-                (λ (s : Stored). overlaid p s.first s.records v
-                ≡ overlaid p s.first s.records (s.homes p)) (sym stored) same))
+            (λ (s : Stored). overlaid p s.first s.records v
+            ≡ overlaid p s.first s.records (s.homes p)) (sym stored) same))
             may.is;
         early = subst (λ (s : Stored). since < next_of s) (sym both) may.early;
         behind =
@@ -358,12 +372,12 @@ module _ {D O : Type 0} (g : Ghosts D) where
         same = ⊎_elim
             (λ (all : v ≡ overlaid p s.first (s.records ++ ws) (s.homes p)).
             let there : (overlaid p s.first (s.records ++ ws)
-                (s.homes p)).lsn < s.first + length s.records = subst
-                (λ (x : PageHeld). x.lsn < s.first + length s.records) all
-                (omega (arith, low, durable)) in
+            (s.homes p)).lsn < s.first + length s.records = subst
+            (λ (x : PageHeld). x.lsn < s.first + length s.records) all
+            (omega (arith, low, durable)) in
             ap (overlaid p s.first s.records)
-                (all ∙ durable_alone p s.first s.records ws (s.homes p) there)
-                ∙ again p s.first s.records (s.homes p))
+            (all ∙ durable_alone p s.first s.records ws (s.homes p) there)
+            ∙ again p s.first s.records (s.homes p))
             (λ same. same)
             may.is;
       }
@@ -377,7 +391,7 @@ module _ {D O : Type 0} (g : Ghosts D) where
       let old = g.reads a.disk in
       let file = by_is_log a.log.older a.root.file a.root.first a.log old quiet.writes.by in
       let same : (c : Image) → Written c → content a.log.file c ≡ content a.log.file old =
-          λ c which.
+      λ c which.
       log_content a.log.file old c file (pages_apart old c which.0.files) in
       let stand = may_stand a p since v quiet may low in
       record {
@@ -421,10 +435,12 @@ module _ {D O : Type 0} (g : Ghosts D) where
               subst (λ o. SaysRoot o a.root)
               (sym (others.blocks RootBlock (λ same. absurd (cc same)))) stands.says;
           file = stands.file;
-          goes_on =
-              (goes.0, goes.1,
-              goes_on_same a.log (g.reads a.disk) (g.reads d)
-              (log_content a.log.file (g.reads a.disk) (g.reads d) stands.file same_logs) goes.2);
+          goes_on = (
+            goes.0,
+            goes.1,
+            goes_on_same a.log (g.reads a.disk) (g.reads d)
+                (log_content a.log.file (g.reads a.disk) (g.reads d) stands.file same_logs) goes.2,
+          );
           size = omega (arith, more, size);
           starts = stands.starts;
         }
@@ -514,7 +530,7 @@ module _ {D O : Type 0} (g : Ghosts D) where
                 ⊎_elim (λ all. inl
                 (all ∙ sym (three (λ n l h. overlaid q n l h) from records held)))
                 (λ same. inr (three (λ n l h. overlaid q n l h) from home.records refl ∙ same
-                    ∙ sym (three (λ n l h. overlaid q n l h) from home.records held)))
+                ∙ sym (three (λ n l h. overlaid q n l h) from home.records held)))
                 may.is;
             early =
                 let was = may.early in
@@ -588,13 +604,17 @@ module _ {D O : Type 0} (g : Ghosts D) where
       record {
         says = subst (λ (r : Root). SaysRoot (value_of RootBlock (g.reads b.disk)) r) (sym root)
             (subst (λ (bytes : List ℕ). SaysRoot
-                (value_of RootBlock (record (g.reads a.disk) { root = bytes })) a.root)
-                (sym kept.root) stands.says);
+            (value_of RootBlock (record (g.reads a.disk) { root = bytes })) a.root)
+            (sym kept.root) stands.says);
         file = subst IsLogFile (sym file) stands.file;
         goes_on = (oldest, bs, goes);
         size =
-            omega (arith, size, ap (λ (r : Root). r.pages) root,
-            ap (λ (l : List ℕ). length l) kept.pages);
+            omega (
+              arith,
+              size,
+              ap (λ (r : Root). r.pages) root,
+              ap (λ (l : List ℕ). length l) kept.pages,
+            );
         starts = subst (λ (r : Root). StartsAt b.log.older r.first b.log.start) (sym root) starts;
       }
 

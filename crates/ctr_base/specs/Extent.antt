@@ -16,4 +16,4 @@ pub record AreCleared (from to : ℕ) (old new : Image) : Type 0 where
   pub others : OtherFilesStay Pages old new
   pub pages : new.pages
       ≡ take (8256 * from) old.pages ++ zero_bytes (8256 * (to - from))
-          ++ drop (8256 * to) old.pages
+      ++ drop (8256 * to) old.pages

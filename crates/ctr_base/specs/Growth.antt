@@ -21,7 +21,7 @@ use Rattle.ctr_base.specs.Extent.{KeepsPageBytes, AreCleared}
 abbrev pub IsGrowing : ℕ → Root → Image → Image → Type 0
 IsGrowing from more old new = KeepsPageBytes (8256 * from) old new
     ⊎ ((mid : Image) × AreCleared from more.pages old mid
-        × IsOldOrNewValue RootBlock (root_block more) mid new)
+    × IsOldOrNewValue RootBlock (root_block more) mid new)
 
 -- The pages by which a file grows are cleared, and then the root counts them.
 abbrev pub HasGrown : ℕ → Root → Image → Image → Type 0

@@ -26,7 +26,7 @@ EndsCatalog counted pages (Ok None) =
 EndsCatalog counted pages (Err b) =
     EndsOnPage 1 (EndsFreeEntry counted (pages 1)) (Err b)
     ⊎ (EndsFreeEntry counted (pages 1) (Ok None)
-        × EndsOnPage 2 (EndsFreeEntry counted (pages 2)) (Err b))
+    × EndsOnPage 2 (EndsFreeEntry counted (pages 2)) (Err b))
 
 -- an entry of the area is free
 abbrev pub is_free_entry : Area → ℕ → Bool

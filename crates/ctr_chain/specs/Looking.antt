@@ -24,8 +24,11 @@ xid_there (Some v) = v.xid
 -- a slot that isn't used has none
 abbrev pub look_of_slot : RowSlot → SlotLook
 look_of_slot s =
-    if s.used == 1 then record { head = s.head.xid; previous = xid_there s.previous;
-        older = s.older }
+    if s.used == 1 then record {
+      head = s.head.xid;
+      previous = xid_there s.previous;
+      older = s.older;
+    }
     else record { head = 0; previous = 0; older = nowhere }
 
 -- nor has a version entry

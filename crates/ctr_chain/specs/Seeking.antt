@@ -31,7 +31,7 @@ pub record EntriesOf : Type 0 where
 abbrev pub most_entries : EntriesOf → ℕ
 most_entries r =
     most_in_chain r.counted * room_for
-        (kept_size (kinds_width (kinds_at (area_of r.pages) r.entry)))
+    (kept_size (kinds_width (kinds_at (area_of r.pages) r.entry)))
 
 -- Where the search along the pointers ends, from a place on behind a page, of which so many may be
 -- left: at the first version that is sought; at the damage of one; or where there is no more. One
@@ -65,7 +65,7 @@ abbrev pub FoundIn : (ℕ → Bool) → SlotLook → Option (Option Found) → T
 FoundIn sought l (Some (Some f)) =
     ((f ≡ record { xid = l.head; at = Head }) × (sought l.head ≡ true))
     ⊎ ((f ≡ record { xid = l.previous; at = Previous }) × (sought l.head ≡ false)
-        × (sought l.previous ≡ true))
+    × (sought l.previous ≡ true))
 FoundIn sought l (Some None) =
     (sought l.head ≡ false) × (sought l.previous ≡ false) × (l.older.page ≡ 0)
 FoundIn sought l None = (sought l.head ≡ false) × (sought l.previous ≡ false) × (l.older.page ≢ 0)

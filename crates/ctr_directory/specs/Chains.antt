@@ -67,14 +67,14 @@ checks_of counted b = record {
 abbrev pub keys_in : {S : Type 0} → IndexSet ℕ S → List Kind → (ℕ → List ℕ) → ℕ → ℕ → Option ℤ
 keys_in set kinds pages p n =
     if contains nat_eq set p && nat_lt n (slots_of_kinds kinds) then key_on kinds n (pages p)
-        else None
+    else None
 
 -- Of the pages of a set, those outside of another set have no free slot.
 abbrev pub SparesTell : {S T : Type 0} → IndexSet ℕ S → IndexSet ℕ T → List Kind → (ℕ → List ℕ)
     → Type 0
 SparesTell set spare kinds pages =
     (p : ℕ) → contains nat_eq set p ≡ true → contains nat_eq spare p ≡ false
-        → AllUsed kinds (pages p)
+    → AllUsed kinds (pages p)
 
 -- A bucket is remembered as its pages are: what the catalog says of it; its chain from the head on
 -- along the pages that were read, which are no more than a chain can have; where each of their keys

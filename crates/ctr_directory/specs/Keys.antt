@@ -49,7 +49,7 @@ SaysSameOutside span before after =
 abbrev pub LiesOutside : List Kind → Span → ℕ → Type 0
 LiesOutside kinds span n =
     (slot_start kinds n + slot_size (kinds_width kinds) ≤ span.from)
-        ⊎ (span.to ≤ slot_start kinds n)
+    ⊎ (span.to ≤ slot_start kinds n)
 
 -- A slot that lies outside of the changed bytes passes its check, and has the key that it had.
 abbrev pub SlotStays : List Kind → ℕ → Span → ℕ → List ℕ → List ℕ → Type 0

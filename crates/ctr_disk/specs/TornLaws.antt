@@ -10,8 +10,12 @@ use Rattle.ctr_types.specs.declared.file.File.TheVariants.{Root, LogA, LogB, Pag
 -- nothing of it may have happened
 torn_none : (at n : ℕ) (o : List ℕ) → Torn at n o o
 torn_none at n o =
-    record { before = (drop at o, sym (take-append-drop at o)); after = refl;
-    no_shorter = omega arith; no_longer = omega arith }
+    record {
+      before = (drop at o, sym (take-append-drop at o));
+      after = refl;
+      no_shorter = omega arith;
+      no_longer = omega arith;
+    }
 
 -- A torn write of nothing leaves the image as it was.
 pub torn_nothing : (file : File) (at n : ℕ) (d : Image) → TornImage file at n d d
@@ -39,16 +43,25 @@ take_of_take (suc m) (suc e) (x ∷ l) le =
 
 length-padded : (p : ℕ) (o : List ℕ) → length (take p (o ++ replicate p 0)) ≡ p
 length-padded p o =
-    omega (arith, length-take p (o ++ replicate p 0), length-append o (replicate p 0),
-    length-replicate {A = ℕ} p 0)
+    omega (
+      arith,
+      length-take p (o ++ replicate p 0),
+      length-append o (replicate p 0),
+      length-replicate {A = ℕ} p 0,
+    )
 
 -- how long the file is after a write
 pub length-written : (p : ℕ) (xs o : List ℕ)
     → length (written p xs o) ≡ max (length o) (p + length xs)
 length-written p xs o =
     let front = take p (o ++ replicate p 0) in
-    omega (arith, length-padded p o, length-append front xs,
-        length-append (front ++ xs) (drop (p + length xs) o), length-drop (p + length xs) o)
+    omega (
+      arith,
+      length-padded p o,
+      length-append front xs,
+      length-append (front ++ xs) (drop (p + length xs) o),
+      length-drop (p + length xs) o,
+    )
 
 -- what stands below the place stays
 front_of : (m p : ℕ) (xs o : List ℕ) → m ≤ p → m ≤ length o → take m (written p xs o) ≡ take m o
@@ -69,21 +82,23 @@ module _ (at n p e : ℕ) (xs o : List ℕ) where
       let m = min at (length o) in
       let front = take p (o ++ replicate p 0) in
       let size : length (front ++ xs) ≡ p + length xs =
-          omega (arith, length-append front xs, length-padded p o) in
+      omega (arith, length-append front xs, length-padded p o) in
       let same : take m (take e w) ≡ take at o =
       take_of_take m e w (omega (arith, end)) ∙ front_of m p xs o low (omega arith)
-          ∙ take_min at o in
+      ∙ take_min at o in
       let tail : drop (at + n) w ≡ drop (at + n) o =
-          drop-append-drop (p + length xs) o (front ++ xs) (at + n) high size in
+      drop-append-drop (p + length xs) o (front ++ xs) (at + n) high size in
       let whole = length-written p xs o in
       let cut = length-take e w in
       record {
-        before =
-            (drop m (take e w), sym (take-append-drop m (take e w))
-            ∙ ap (λ (l : List ℕ). l ++ drop m (take e w)) same);
+        before = (
+          drop m (take e w),
+          sym (take-append-drop m (take e w))
+              ∙ ap (λ (l : List ℕ). l ++ drop m (take e w)) same,
+        );
         after = drop_of_take (at + n) e w ∙ ap (λ (l : List ℕ). take (e - (at + n)) l) tail
             ∙ take_all (e - (at + n)) (drop (at + n) o)
-                (omega (arith, end, length-drop (at + n) o));
+            (omega (arith, end, length-drop (at + n) o));
         no_shorter = omega (arith, whole, cut, end);
         no_longer = omega (arith, whole, cut, high);
       }
@@ -93,7 +108,7 @@ torn_all at bytes o =
     let e = length (written at bytes o) in
     subst (λ w. Torn at (length bytes) o w) (take_all e (written at bytes o) (omega arith))
     (torn_piece at (length bytes) at e bytes o (omega arith) (omega arith)
-        (omega (arith, length-written at bytes o)))
+    (omega (arith, length-written at bytes o)))
 
 -- all of it may have happened
 pub torn_whole : (file : File) (at : ℕ) (bytes : List ℕ) (d : Image)

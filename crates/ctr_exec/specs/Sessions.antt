@@ -97,7 +97,7 @@ IsOverWhere turn.Stopped runner = ⊥
 unfoldable pub turns_left : {D : Type 0} → Sessions → View D → ℕ
 turns_left h v =
     ((all_left h.runners.items * 2 ^ 64 + (2 ^ 63 - v.next)) * 2 ^ 15 +
-        (MOST_PAGES - v.now.counted))
+    (MOST_PAGES - v.now.counted))
     * 4
     + turns_for_room v
 

@@ -43,7 +43,7 @@ FindsKey area e key None =
 abbrev pub FindsFree : Area → ℕ → ℕ → Option Place → Type 0
 FindsFree area e bucket (Some at) =
     IsAmong at (places_from area (first_of_chain area (Rows e bucket)))
-        × ((area.slot at).used ≡ false)
+    × ((area.slot at).used ≡ false)
 FindsFree area e bucket None =
     (at : Place) → IsAmong at (places_from area (first_of_chain area (Rows e bucket)))
     → (area.slot at).used ≡ true

@@ -16,7 +16,7 @@ use Rattle.ctr_home.specs.Reading.{number_check}
 abbrev pub root_body : Root → List ℕ
 root_body r =
     codes "CTRDB001" ++ spelled 4 r.format ++ spelled 1 r.file ++ spelled 8 r.first
-        ++ spelled 4 r.pages
+    ++ spelled 4 r.pages
 
 -- the value of the root block in the bytes of its file
 abbrev pub root_value : List ℕ → Option BlockValue

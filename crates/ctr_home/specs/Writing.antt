@@ -51,7 +51,7 @@ pub record KeepsHome (b : Block) (home : Home) (old new : Image) : Type 0 where
   pub others : OthersStay b old new
   pub beside :
       held_at b (other home) (content (file_of b) new)
-          ≡ held_at b (other home) (content (file_of b) old)
+      ≡ held_at b (other home) (content (file_of b) old)
   pub here : (held_at b home (content (file_of b) new) ≡ None)
       ⊎ (held_at b home (content (file_of b) new) ≡ held_at b home (content (file_of b) old))
 
@@ -61,7 +61,7 @@ pub record MakesHome (b : Block) (home : Home) (value : BlockValue) (old new : I
   pub others : OthersStay b old new
   pub beside :
       held_at b (other home) (content (file_of b) new)
-          ≡ held_at b (other home) (content (file_of b) old)
+      ≡ held_at b (other home) (content (file_of b) old)
   pub here : held_at b home (content (file_of b) new) ≡ Some value
   pub whole : home_bytes b home (content (file_of b) new) ≡ 1 ∷ behind_gate b value
 

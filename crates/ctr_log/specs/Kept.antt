@@ -20,8 +20,8 @@ abbrev pub logged : ℕ → List ℕ → List (List ℕ)
 logged zero bytes = []
 logged (suc n) bytes =
     if slice_index bytes 0 == 1 then unframed (field 4 17 bytes)
-        (take (field 8 1 bytes) (drop 21 bytes))
-        ++ logged n (drop (21 + field 8 1 bytes) bytes) else []
+    (take (field 8 1 bytes) (drop 21 bytes))
+    ++ logged n (drop (21 + field 8 1 bytes) bytes) else []
 
 -- the records of a file: there are no more batches than bytes
 abbrev pub log_in : List ℕ → List (List ℕ)
@@ -36,7 +36,7 @@ begins_at next bytes = slice_index bytes 0 == 1 && field 8 9 bytes == next
 abbrev pub kept_in : ℕ → List ℕ → List ℕ → List (List ℕ)
 kept_in first named other =
     if begins_at (first + length (log_in named)) other then log_in named
-        ++ log_in other else log_in named
+    ++ log_in other else log_in named
 
 -- the file that a root's byte doesn't name
 abbrev pub other_file : ℕ → File
@@ -77,7 +77,7 @@ pub record HoldsTwo (file first : ℕ) (bs cs : Batches) (image : Image) : Type 
 abbrev pub HoldsLog : ℕ → ℕ → List (List ℕ) → Image → Type 0
 HoldsLog file first rs image = ((bs : Batches) × (records bs ≡ rs) × HoldsOne file first bs image)
     ⊎ ((bs : Batches) × (cs : Batches) × (records bs ++ records cs ≡ rs)
-        × HoldsTwo file first bs cs image)
+    × HoldsTwo file first bs cs image)
 
 -- the writer goes on behind the one generation that is kept
 pub record WritesOne (file first : ℕ) (log : Log) (image : Image) : Type 0 where
@@ -184,7 +184,7 @@ pub record BeginsFile (r : List ℕ) (old new : Log) (was now : Image) : Type 0 
 abbrev pub StaysDropped : File → Image → Image → Type 0
 StaysDropped file old new = OtherFilesStay file old new
     × ((first : ℕ) → 1 ≤ first → IsDropped first (content file old)
-        → IsDropped first (content file new))
+    → IsDropped first (content file new))
 
 -- the root names a file of the log, and a number that its first record can have
 pub record NamesKept (r : Root) : Type 0 where

@@ -32,7 +32,7 @@ frame_checks zero at bytes = []
 frame_checks (suc n) at [] = []
 frame_checks (suc n) at (b ∷ bs) =
     frame_check at (b ∷ bs)
-        ++ frame_checks n (at + (8 + field 8 0 (b ∷ bs))) (behind_frame (b ∷ bs))
+    ++ frame_checks n (at + (8 + field 8 0 (b ∷ bs))) (behind_frame (b ∷ bs))
 
 -- how many frames, n at most, the bytes are
 abbrev pub frames_in : ℕ → List ℕ → ℕ
@@ -72,8 +72,8 @@ abbrev pub log_checks : ℕ → ℕ → ℕ → List ℕ → List Check
 log_checks next gate zero bytes = []
 log_checks next gate (suc n) bytes =
     if slice_index bytes 0 == 1 then batch_checks next gate bytes
-        ++ log_checks (next + field 4 17 bytes) (gate + (21 + field 8 1 bytes)) n
-        (drop (21 + field 8 1 bytes) bytes) else []
+    ++ log_checks (next + field 4 17 bytes) (gate + (21 + field 8 1 bytes)) n
+    (drop (21 + field 8 1 bytes) bytes) else []
 
 -- a file whose records are numbered from this LSN on: its first gate is open, then batch by batch
 abbrev pub file_checks : ℕ → List ℕ → List Check
@@ -95,9 +95,9 @@ abbrev pub sound_batch_visits : File → ℕ → ℕ → ℕ → List ℕ → Li
 sound_batch_visits file lsn gate zero bytes = []
 sound_batch_visits file lsn gate (suc n) bytes =
     if slice_index bytes 0 == 1 then if_passed (judged file (batch_checks lsn gate bytes))
-        (frame_visits file lsn (gate + 21) (field 4 17 bytes) (frame_bytes bytes)
-        ++ sound_batch_visits file (lsn + field 4 17 bytes) (gate + (21 + field 8 1 bytes)) n
-        (drop (21 + field 8 1 bytes) bytes)) else []
+    (frame_visits file lsn (gate + 21) (field 4 17 bytes) (frame_bytes bytes)
+    ++ sound_batch_visits file (lsn + field 4 17 bytes) (gate + (21 + field 8 1 bytes)) n
+    (drop (21 + field 8 1 bytes) bytes)) else []
 
 -- The records of a whole file that come before the damage that is told of it.
 abbrev pub sound_visits : File → ℕ → List ℕ → List Visit
@@ -115,8 +115,8 @@ kept_damage file first image =
     let named = content (log_file file) image in
     let other = content (other_file file) image in
     damage_or (file_damage (log_file file) first named)
-        (if has_newer first named other then file_damage (other_file file)
-        (first + length (log_in named)) other else Ok tt)
+    (if has_newer first named other then file_damage (other_file file)
+    (first + length (log_in named)) other else Ok tt)
 
 -- The records of the log of an image that come before its damage: those of the named file, and
 -- where it has no damage, those of the other one where it goes on from that.
@@ -125,9 +125,9 @@ sound_kept_visits file first image =
     let named = content (log_file file) image in
     let other = content (other_file file) image in
     sound_visits (log_file file) first named
-        ++ if_passed (file_damage (log_file file) first named)
-        (if has_newer first named other then sound_visits (other_file file)
-        (first + length (log_in named)) other else [])
+    ++ if_passed (file_damage (log_file file) first named)
+    (if has_newer first named other then sound_visits (other_file file)
+    (first + length (log_in named)) other else [])
 
 -- damage that was told is this; or the disk failed, or memory was refused
 abbrev pub IsThisDamage : Result ⊤ StoreFault → ReadError → Type 0

@@ -24,7 +24,7 @@ abbrev pub frame_visits : File → ℕ → ℕ → ℕ → List ℕ → List Vis
 frame_visits file lsn at zero bytes = []
 frame_visits file lsn at (suc n) bytes =
     visit_of lsn file (at + 8) (take (field 8 0 bytes) (drop 8 bytes)) ∷ frame_visits file
-        (lsn + 1) (at + (8 + field 8 0 bytes)) n (drop (8 + field 8 0 bytes) bytes)
+    (lsn + 1) (at + (8 + field 8 0 bytes)) n (drop (8 + field 8 0 bytes) bytes)
 
 -- The records in the bytes from a gate of a file on, numbered from this LSN on: of n open batches
 -- at most, and up to the first closed gate.
@@ -32,9 +32,9 @@ abbrev pub batch_visits : File → ℕ → ℕ → ℕ → List ℕ → List Vis
 batch_visits file lsn gate zero bytes = []
 batch_visits file lsn gate (suc n) bytes =
     if slice_index bytes 0 == 1 then frame_visits file lsn (gate + 21) (field 4 17 bytes)
-        (take (field 8 1 bytes) (drop 21 bytes))
-        ++ batch_visits file (lsn + field 4 17 bytes) (gate + (21 + field 8 1 bytes)) n
-        (drop (21 + field 8 1 bytes) bytes) else []
+    (take (field 8 1 bytes) (drop 21 bytes))
+    ++ batch_visits file (lsn + field 4 17 bytes) (gate + (21 + field 8 1 bytes)) n
+    (drop (21 + field 8 1 bytes) bytes) else []
 
 -- the records of a file, numbered from this LSN on: there are no more batches than bytes
 abbrev pub file_visits : File → ℕ → List ℕ → List Visit
@@ -47,8 +47,8 @@ kept_visits file first image =
     let named = content (log_file file) image in
     let other = content (other_file file) image in
     if has_newer first named other then file_visits (log_file file) first named
-        ++ file_visits (other_file file) (first + length (log_in named)) other else file_visits
-        (log_file file) first named
+    ++ file_visits (other_file file) (first + length (log_in named)) other else file_visits
+    (log_file file) first named
 
 -- The bytes of the records that are visited, each by itself.
 abbrev pub visit_bytes : List Visit → List (List ℕ)
@@ -111,7 +111,7 @@ abbrev pub Visits : {V T E : Type 0} → (V → List Visit → Type 0)
     → (List Visit → Visit → E → Type 0) → V → V → List Visit → Result T (VisitError E) → Type 0
 Visits has_seen refuses old new sound result =
     MatchResult result (λ _. IsGiven has_seen old new sound)
-        (StopsAt has_seen refuses old new sound)
+    (StopsAt has_seen refuses old new sound)
 
 -- where reading ended without a refusal, it ended so
 abbrev pub OnRead : {E : Type 0} → (ReadError → Type 0) → VisitError E → Type 0

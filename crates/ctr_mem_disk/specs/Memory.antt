@@ -100,7 +100,7 @@ recorded_as call d = record {
   call = call;
   outcome =
       outcome_of (strays_by call || (ticks_by call && nat_le (2 ^ 64 - 1) (moment_at d)))
-          (list_any (λ n. n == raised (counted_calls d)) (failing_calls d));
+      (list_any (λ n. n == raised (counted_calls d)) (failing_calls d));
   moment = if ticks_by call then raised (moment_at d) else moment_at d;
 }
 
@@ -124,4 +124,4 @@ pub record DoesCall {T E : Type 0} (call : Call) (old new : MemDisk) (result : R
   pub goes : IsCallAnswered (recorded_as call old) (recorded_calls old) (recorded_calls new)
       (starved_calls old) (starved_calls new) result
       ⊎ IsStarved (recorded_calls old) (recorded_calls new) (starved_calls old)
-          (starved_calls new) result
+      (starved_calls new) result

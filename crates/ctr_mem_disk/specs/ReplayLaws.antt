@@ -22,14 +22,14 @@ only_at_end : (i : Image) (P : Image → Type 0) (calls : List Recorded) (m : �
 only_at_end i P [] m c le left = left
 only_at_end i P (r ∷ calls) m c le left =
     ⊎_elim (λ w. absurd (omega (arith, le, w.0)))
-        (only_at_end (reads_by r i) (images_by r i P) calls m c (omega (arith, le))) left
+    (only_at_end (reads_by r i) (images_by r i P) calls m c (omega (arith, le))) left
 
 from_earlier : (i : Image) (P : Image → Type 0) (calls : List Recorded) (s t : ℕ) (c : Image)
     → s ≤ t → images_since i P calls t c → images_since i P calls s c
 from_earlier i P [] s t c le left = left
 from_earlier i P (r ∷ calls) s t c le left =
     ⊎_elim (λ w. inl (omega (arith, le, w.0), w.1))
-        (λ rest. inr (from_earlier (reads_by r i) (images_by r i P) calls s t c le rest)) left
+    (λ rest. inr (from_earlier (reads_by r i) (images_by r i P) calls s t c le rest)) left
 
 -- a call keeps what a read gives among the images
 reads_among_by : (call : Call) (outcome : Outcome) (i : Image) (P : Image → Type 0) → P i

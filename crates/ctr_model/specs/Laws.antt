@@ -75,7 +75,7 @@ pub record SeesTheSame (s : ℕ) (me : Transaction) (old new : State) : Type 0 w
 abbrev pub SnapshotsStay : Type 0
 SnapshotsStay =
     (lines : List Line) (p : Point) (es : List Entry) (s : ℕ) (me : Transaction)
-        → IsSoundState p.state
+    → IsSoundState p.state
     → transaction_of p.state s ≡ Some me → OthersOnly s es
     → SeesTheSame s me p.state (final lines p es).state
 

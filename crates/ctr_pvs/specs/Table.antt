@@ -56,7 +56,7 @@ abbrev pub table_check : ℕ → ℕ → (ℕ → List ℕ) → ℕ → Result �
 table_check kind counted pages p =
     told_of p (owner_check kind counted p (pages p))
     >>= λ _. told_of (1 + owner_of (pages p) / 16)
-        (catalog_check counted pages (owner_of (pages p)))
+    (catalog_check counted pages (owner_of (pages p)))
 
 -- ---- what is found
 

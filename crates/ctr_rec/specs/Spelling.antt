@@ -14,7 +14,7 @@ use Rattle.ctr_rec.specs.Parts.{form_of}
 abbrev pub field_bytes : Layout → ℕ → ℕ → List ℕ
 field_bytes l first second =
     spelled 1 l.number ++ spelled (bytes_of_field l.first) first
-        ++ spelled (bytes_of_field l.second) second
+    ++ spelled (bytes_of_field l.second) second
 
 -- where an overlay lies: its page, its place in it, its length
 abbrev pub place_bytes : List ℕ → ℕ → Overlay → List ℕ

@@ -67,7 +67,7 @@ pub record FilesBegin (file first : ℕ) (image : Image) : Type 0 where
 abbrev pub last_file : ℕ → ℕ → Image → File
 last_file file first image =
     writer_file (has_newer first (content (log_file file) image)
-        (content (other_file file) image)) file
+    (content (other_file file) image)) file
 
 -- Records may be flushed to a file: the log's last one. They fit behind the log, and none is a
 -- Checkpoint.

@@ -50,4 +50,4 @@ abbrev pub by_home : ℕ → ℕ → ℕ → List Record → List ℕ → List �
 by_home p stamp lsn [] body = body
 by_home p stamp lsn (r ∷ rs) body =
     by_home p stamp (lsn + 1) rs
-        (if touches r p && nat_lt stamp lsn then changed_by r body else body)
+    (if touches r p && nat_lt stamp lsn then changed_by r body else body)

@@ -235,7 +235,7 @@ abbrev pub RevertsRow : {D : Type 0} → Image → Ghosts D → Place → View D
     → Result ⊤ StoreFault → Type 0
 RevertsRow first g at a b (Ok t) =
     (x : ℕ) × (w : ℕ) × (bytes : List ℕ)
-        × LogsOne {T = ⊤} first g (lost_record x at w bytes) a b (Ok tt)
+    × LogsOne {T = ⊤} first g (lost_record x at w bytes) a b (Ok tt)
     × (IsTrue g.tells → IsSoundImage first → RevertsHead (pages_in a.now) at x w bytes)
 RevertsRow first g at a b (Err e) = ReadsPages {T = ⊤} first g a b (Err e)
     ⊎ ((x : ℕ) × (w : ℕ) × (bytes : List ℕ)

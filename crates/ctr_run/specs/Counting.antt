@@ -16,6 +16,6 @@ pub record CountsAsked {D : Type 0} (g : Ghosts D) (old : D) (lines : List Line)
     (r : Ran D) : Type 0 where
   pub counted : (s : State) → IsTrue g.tells → StandsForDatabase (g.reads old) s → asked ≡ true
       → r.end ≡ Finished
-          → AreTotals (rows_asked (opened_on g old lines) s r.left.tape.entries) r.left.totals
+      → AreTotals (rows_asked (opened_on g old lines) s r.left.tape.entries) r.left.totals
   pub unasked : asked ≡ false → r.left.totals ≡ no_totals
   pub unfinished : r.end ≢ Finished → r.left.totals ≡ no_totals

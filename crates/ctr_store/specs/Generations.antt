@@ -109,8 +109,13 @@ CanDrop s = (s.base.log.older ≡ true)
 -- the older one isn't kept any more; all else is as it was, but for the disk and what it folds to
 abbrev pub ForgetsOlder : {D : Type 0} → View D → View D → Type 0
 ForgetsOlder a b =
-    (b ≡ record a { disk = b.disk; hardened = b.hardened; now = b.now; older = false;
-        stopped = b.stopped })
+    (b ≡ record a {
+      disk = b.disk;
+      hardened = b.hardened;
+      now = b.now;
+      older = false;
+      stopped = b.stopped;
+    })
     × (b.now.counted ≡ a.now.counted)
 
 -- how its end leaves a store, by the answer

@@ -77,7 +77,7 @@ pub record FindsPage {D O T : Type 0} (first : Image) (g : Ghosts D) (p : ℕ) (
     (result : Result T StoreFault) : Type 0 where
   pub hit : has_page p s.pool.frames ≡ true
       → IfErr result (IsFaultOr
-          (λ e. next_in t ≤ (page_shown s.pool.frames p (home_of g s.base p)).lsn))
+      (λ e. next_in t ≤ (page_shown s.pool.frames p (home_of g s.base p)).lsn))
   pub miss : has_page p s.pool.frames ≡ false → p < t.base.root.pages → 1 ≤ next_in t
       → ReadsPage first g p s t result
   pub others : OnOk result

@@ -100,7 +100,7 @@ abbrev pub EndsChain : ℕ → (ℕ → List ℕ) → Chain → EndsByKinds → 
     → Type 0
 EndsChain counted pages chain ends result =
     ((bad : BadRecord)
-        × (chain_table_check counted chain (pages (1 + chain_entry chain / 16)) ≡ Err bad)
+    × (chain_table_check counted chain (pages (1 + chain_entry chain / 16)) ≡ Err bad)
     × (result ≡ Err (OnPage (1 + chain_entry chain / 16) bad)))
     ⊎ ((chain_table_check counted chain (pages (1 + chain_entry chain / 16)) ≡ Ok tt)
     × EndsAlong (chain_sought pages counted chain ends) pages (most_in_chain counted) 0

@@ -106,13 +106,13 @@ load_asked rows = option_and_then (λ sessions. option_and_then (λ count. optio
     sessions count seed)
     (number_of_option (codes "seed") 0 18446744073709551615 rows))
     (number_of_option (codes "count") 0 1000000 rows))
-        (number_of_option (codes "sessions") 1 8 rows)
+    (number_of_option (codes "sessions") 1 8 rows)
 
 -- the command of a name, with its rows
 abbrev pub command_named : Text × List Row → Option Subcommand
 command_named met = if bytes_eq met.0 (codes "init") then Some asked.Init
     else if bytes_eq met.0 (codes "run") then Some
-        (asked.Run (frames_asked met.1) (asks_threads met.1))
+    (asked.Run (frames_asked met.1) (asks_threads met.1))
     else if bytes_eq met.0 (codes "load") then load_asked met.1
     else if bytes_eq met.0 (codes "report") then Some asked.Report else None
 

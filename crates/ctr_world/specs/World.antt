@@ -145,7 +145,7 @@ rows_asked o s es = after_all (led_to o s es).state.asked (led_to o s es).state.
 abbrev pub LeavesPrefix : {D B : Type 0} → Opening B → Ghosts D → State → D → List Entry → Type 0
 LeavesPrefix o g s disk es =
     LeftSince g o.start disk
-        (LeavesPrefixAt o.before (start_in o s).base (led_to o s es).state.asked es)
+    (LeavesPrefixAt o.before (start_in o s).base (led_to o s es).state.asked es)
 
 -- ---- both
 
