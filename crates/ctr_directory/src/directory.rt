@@ -14,7 +14,7 @@ use std::alloc::Global;
 /// The most buckets of a database: 8 of each of 32 tables.
 const BUCKETS: usize = 256;
 
-/// How many keys are remembered at most, in all: they take some 64 MiB, of 32 bytes each at most twice over.
+/// How many keys a new directory may remember, in all: they take some 64 MiB, of 32 bytes each at most twice over.
 pub const MOST_KEYS: usize = 1 << 20;
 
 /// What is remembered of the buckets of tables. It is exact where it says anything.
@@ -22,10 +22,19 @@ pub const MOST_KEYS: usize = 1 << 20;
 pub struct Directory {
     /// By their numbers, up to the last one that was asked for.
     pub buckets: Vec<Remembered>,
+    /// At which use each bucket was used last, by its number; 0 where it never was.
+    pub used_at: [u64; BUCKETS],
+    /// How many times a bucket was used.
+    pub uses: u64,
+    /// How many keys may be remembered, in all. No call leaves more; within `read` and `changed` there may be one page's keys more.
+    pub most: usize,
+    /// How many keys are remembered, in all: the sum over the buckets, as each call leaves it.
+    pub keys: usize,
 }
 
 fn number_of(entry: u8, bucket: u8) -> usize
     requires { (entry < 32) × (bucket < 8) }
+    ensures { result < 256 }
 {
     entry as usize * 8 + bucket as usize
 }
@@ -37,6 +46,10 @@ impl Directory {
     {
         Directory {
             buckets: Vec::new(alloc),
+            used_at: [0; BUCKETS],
+            uses: 0,
+            most: MOST_KEYS,
+            keys: 0,
         }
     }
 
@@ -65,9 +78,10 @@ impl Directory {
         for i in 0..self.buckets.len() {
             self.buckets[i].forget();
         }
+        self.keys = 0;
     }
 
-    // How many keys are remembered.
+    // How many keys are remembered, added up over the buckets.
     fn len(&self) -> usize {
         let mut keys: usize = 0;
         for bucket in self.buckets.iter() {
@@ -76,23 +90,86 @@ impl Directory {
         keys
     }
 
-    // Forgets all where there is too much.
+    // The number of the bucket that was used longest ago, of those that have keys.
+    fn oldest(&self) -> usize {
+        let mut oldest = 0;
+        let mut least = u64::MAX;
+        for (i, bucket) in self.buckets.iter().enumerate() {
+            let at = match self.used_at.get(i) {
+                Some(at) => *at,
+                None => 0,
+            };
+            if bucket.len() > 0 && at <= least {
+                oldest = i;
+                least = at;
+            }
+        }
+        oldest
+    }
+
+    // Forgets one bucket, by its number.
+    fn forget_bucket(&mut self, number: usize)
+        ensures { (counted : ℕ) (pages : ℕ → List ℕ) → IsExact counted pages self.old → IsExact counted pages self.new }
+    {
+        if number >= self.buckets.len() {
+            return;
+        }
+        let had = self.buckets[number].len();
+        self.buckets[number].forget();
+        self.keys = self.keys.saturating_sub(had);
+    }
+
+    // Forgets the bucket that was used longest ago, one after another, until there is no more than is allowed. Each round forgets a
+    // bucket that has keys, so that there are no more rounds than buckets.
     fn limit(&mut self)
         ensures { (counted : ℕ) (pages : ℕ → List ℕ) → IsExact counted pages self.old → IsExact counted pages self.new }
     {
-        if self.len() > MOST_KEYS {
-            self.forget();
+        for _ in 0..self.buckets.len() {
+            if self.keys <= self.most {
+                return;
+            }
+            let number = self.oldest();
+            self.forget_bucket(number);
         }
     }
 
+    /// So many keys may be remembered from now on, in all. What is too much is forgotten at once: the bucket that was used longest
+    /// ago, one after another.
+    pub fn allow(&mut self, most: usize)
+        ensures { (counted : ℕ) (pages : ℕ → List ℕ) → IsExact counted pages self.old → IsExact counted pages self.new }
+    {
+        self.most = most;
+        self.limit();
+    }
+
+    /// A bucket is used: of all buckets it is the last that is forgotten where there is too much.
+    pub fn used(&mut self, entry: u8, bucket: u8)
+        requires { (entry < 32) × (bucket < 8) }
+        ensures { (counted : ℕ) (pages : ℕ → List ℕ) → IsExact counted pages self.old → IsExact counted pages self.new }
+    {
+        let number = number_of(entry, bucket);
+        self.uses = self.uses.saturating_add(1);
+        self.used_at[number] = self.uses;
+    }
+
+    // Only for a bucket that is known anything is done: its keys are taken from the count as it was, and added as it is.
     fn change_all(&mut self, number: PageNo, span: Span, counted: u32, before: &[u8], page: &[u8])
         requires some { 4 ≤ counted }
         requires whole { (length before.now ≡ PAGE_SIZE) × (length page.now ≡ PAGE_SIZE) }
         ensures { (a b : ℕ → List ℕ) → ChangesPage number span before.now page.now a b → IsExact counted a self.old → IsExact counted b self.new }
     {
+        let mut keys = self.keys;
         for i in 0..self.buckets.len() {
+            if !self.buckets[i].known {
+                continue;
+            }
+            let had = self.buckets[i].len();
             self.buckets[i].changed(number, span, counted, before, page);
+            keys = keys
+                .saturating_sub(had)
+                .saturating_add(self.buckets[i].len());
         }
+        self.keys = keys;
     }
 
     /// A page has other bytes, of which those outside of the span are as they were. A bucket of which what is remembered isn't exact any more is forgotten.
@@ -200,6 +277,7 @@ impl Directory {
             return;
         }
         self.put(at, number, counted, page);
+        self.keys = self.len();
         self.limit();
     }
 
@@ -213,6 +291,7 @@ impl Directory {
         if number >= counted {
             return;
         }
+        self.used(entry, bucket);
         if self.knows(entry, bucket) {
             return self.add(entry, bucket, number, counted, page);
         }
