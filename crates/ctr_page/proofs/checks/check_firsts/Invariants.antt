@@ -1,4 +1,4 @@
-use Rattle.std.proofs.Common
+use Rattle.std.proofs.Common.{◌≡◌, ◌≤◌, ◌+◌, ◌*◌, length}
 use Rattle.ctr_page.specs.Damage.{firsts_check}
 use Rattle.ctr_page.proofs.checks.check_firsts.Given as goal
 
