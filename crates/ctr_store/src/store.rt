@@ -119,6 +119,14 @@ impl<D: Disk, O: Origin> Store<D, O> {
         Ok(self.parts.bytes(page))
     }
 
+    /// So many keys of rows are remembered from now on at most, by which a row is found without a search. What is too much is
+    /// forgotten, the bucket that was used longest ago first.
+    pub fn allow_keys(&mut self, most: usize)
+        ensures { self.new ≡ self.old }
+    {
+        self.directory.allow(most);
+    }
+
     /// Reads one page more of those by which all slots of a table's bucket are remembered: the page of the catalog that has the table's
     /// entry, or the next one of the bucket's chain. It answers false where none is left, or where they can't be remembered.
     pub fn read_on(&mut self, entry: u8, bucket: u8) -> Result<bool, StoreFault>
@@ -126,6 +134,7 @@ impl<D: Disk, O: Origin> Store<D, O> {
         requires there { (entry < 32) × (bucket < 8) }
         ensures leaves { LeavesPage O.first D.Disk self.old self.new result }
     {
+        self.directory.used(entry, bucket);
         let Some(page) = self.directory.wanted(entry, bucket) else {
             return Ok(false);
         };

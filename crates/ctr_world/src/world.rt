@@ -129,6 +129,14 @@ impl<D: Disk, B: Origin + Opening> World<D, B> {
         }
     }
 
+    /// So many keys of rows are remembered from now on at most, by which a row is found without a search. What is told of a World doesn't depend on
+    /// it.
+    pub fn allow_keys(&mut self, most: usize)
+        ensures { self.new ≡ self.old }
+    {
+        self.parts.engine.store.allow_keys(most);
+    }
+
     /// Every session's statements are finished, and nothing has stopped the World.
     pub fn done(&self) -> bool
         ensures yes { result ≡ true → (self.now.stop ≡ None) × ((s : ℕ) → HasStatementLeft s self.now.running.sessions → ⊥) }
