@@ -134,8 +134,8 @@ impl<D: Disk, O: Origin> Store<D, O> {
         requires there { (entry < 32) × (bucket < 8) }
         ensures leaves { LeavesPage O.first D.Disk self.old self.new result }
     {
-        self.directory.used(entry, bucket);
         let Some(page) = self.directory.wanted(entry, bucket) else {
+            self.directory.used(entry, bucket);
             return Ok(false);
         };
         match self.parts.bring(page) {

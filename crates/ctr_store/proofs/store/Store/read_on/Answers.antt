@@ -1,7 +1,7 @@
-use Rattle.std.proofs.Common.{◌≡◌, ◌∙◌, ◌<◌, false, sym, ap}
+use Rattle.std.proofs.Common.{◌≡◌, ◌∙◌, false, sym, ap, subst, Ok}
 use Rattle.ctr_base.specs.Base.{now_of}
 use Rattle.ctr_base.specs.redo_States.{state_of, page_at}
-use Rattle.ctr_store.specs.Store.{View}
+use Rattle.ctr_store.specs.Store.{View, LeavesPage}
 use Rattle.ctr_store.proofs.BufferLaws.{buffer_kept, count_kept}
 use Rattle.ctr_store.proofs.NumberLaws.{numbers_kept}
 use Rattle.ctr_store.proofs.PartsLaws.{fold_low, fold_moved}
@@ -13,7 +13,20 @@ pub returns-in_default : goal.returns-in_default
 returns-in_default g c =
     let a = c.self.inside in
     let going : a.stopped ≡ false = ap (λ (v : View g.row.D.Denot). v.stopped) c.self.view_is ∙ c.requires.going in
-    record { leaves = page_unread g.D.Disk g.O.Origin.first g.met.D.Disk.only_now a.parts a.stopped c.args.self.now c.self.view_is c.self.invariant.buffer going (λ told. c.self.invariant.fold told going) false }
+    let still = page_unread g.D.Disk g.O.Origin.first g.met.D.Disk.only_now a.parts a.stopped c.args.self.now c.self.view_is c.self.invariant.buffer going (λ told. c.self.invariant.fold told going) false in
+    record { leaves = subst (λ (v : View g.row.D.Denot). LeavesPage g.O.Origin.first g.D.Disk c.args.self.now v (Ok false)) (sym c.self.view_is) still }
+
+pub invariant_of-self : goal.invariant_of-self
+invariant_of-self g c =
+    let inv = c.self.invariant in
+    let base = c.self.inside.parts.base in
+    record {
+      fold = inv.fold;
+      recalls = λ told sound going. c.used.ensures base.root.pages (λ p. page_at p (state_of (now_of g.D.Disk base)).pages) (inv.recalls told sound going);
+      buffer = inv.buffer;
+      counted = inv.counted;
+      numbers = inv.numbers;
+    }
 
 pub returns-in-Err : goal.returns-in-Err
 returns-in-Err g c =
