@@ -17,7 +17,7 @@ use Rattle.clap.specs.declared.parser.matches.ValueSource.{ValueSource}
 use Rattle.clap.specs.declared.parser.matches.ValueSource.TheVariants.{CommandLine, DefaultValue}
 use Rattle.clap.specs.Words.{new_rule}
 use Rattle.clap.proofs.FaultLemmas.{past}
-use Rattle.ctr_words.specs.Words.{frames_rule, threads_rule, simple_command}
+use Rattle.ctr_words.specs.Words.{frames_rule, threads_rule, keys_rule, simple_command}
 
 -- a step that has no fault where the first has none
 none : (a b : Kinds) → or_else a b ≡ [] → (a ≡ []) × (b ≡ [])
@@ -32,6 +32,9 @@ frames_filled = filled frames_rule
 
 abbrev threads_filled : Rule
 threads_filled = filled threads_rule
+
+abbrev keys_filled : Rule
+keys_filled = filled keys_rule
 
 abbrev folder_filled : Rule
 folder_filled = with_index 1 (filled (record (new_rule (codes "DIR")) { required = true }))
@@ -92,15 +95,23 @@ fine_values id how s values rows passed fine = fine_at id (more_values s values)
 abbrev Keeps : Rule → Type 0
 Keeps a = (again : Bool) (values : List Text) (rows : List Row) → use_fault again a values rows ≡ [] → Fine rows → Fine (used a values rows)
 
+another : {X : Type 0} → false ≡ true → X
+another e = cc
+
+-- the values of an argument of another name keep them
+other_values : (a : Rule) → bytes_eq a.id (codes "frames") ≡ false → (values : List Text) (rows : List Row) → Fine rows
+    → Fine (with_values a.id (reading_by a) CommandLine (values_or_missing a values) (without a.id rows))
+other_values a other values rows fine =
+    fine_values a.id (reading_by a) CommandLine (values_or_missing a values) (without a.id rows) (λ is. another (sym other ∙ is)) (fine_without a.id rows fine)
+
 folder_keeps : Keeps folder_filled
-folder_keeps again values rows h fine =
-    fine_values (codes "DIR") (reading_by folder_filled) CommandLine (values_or_missing folder_filled values) (without (codes "DIR") rows)
-    (λ is. let bad : false ≡ true = is in cc) (fine_without (codes "DIR") rows fine)
+folder_keeps again values rows h fine = other_values folder_filled refl values rows fine
 
 threads_keeps : Keeps threads_filled
-threads_keeps again values rows h fine =
-    fine_values (codes "threads") (reading_by threads_filled) CommandLine (values_or_missing threads_filled values) (without (codes "threads") rows)
-    (λ is. let bad : false ≡ true = is in cc) (fine_without (codes "threads") rows fine)
+threads_keeps again values rows h fine = other_values threads_filled refl values rows fine
+
+keys_keeps : Keeps keys_filled
+keys_keeps again values rows h fine = other_values keys_filled refl values rows fine
 
 frames_keeps : Keeps frames_filled
 frames_keeps again values rows h fine =
@@ -307,10 +318,10 @@ module _ (s : Shape) (keep : EachKeeps s.rules) where
 -- ---- the run
 
 abbrev run_rules : List Rule
-run_rules = folder_filled ∷ threads_filled ∷ frames_filled ∷ help_filled ∷ []
+run_rules = folder_filled ∷ threads_filled ∷ frames_filled ∷ keys_filled ∷ help_filled ∷ []
 
 run_keeps : EachKeeps run_rules
-run_keeps = (folder_keeps, without_defaults folder_filled refl, (threads_keeps, threads_default, (frames_keeps, without_defaults frames_filled refl, (help_keeps, without_defaults help_filled refl, tt))))
+run_keeps = (folder_keeps, without_defaults folder_filled refl, (threads_keeps, threads_default, (frames_keeps, without_defaults frames_filled refl, (keys_keeps, without_defaults keys_filled refl, (help_keeps, without_defaults help_filled refl, tt)))))
 
 -- where it is the run's, each of its arguments keeps them
 abbrev IsRunIfNamed : Shape → Type 0
@@ -331,9 +342,6 @@ named_so test (x ∷ xs) each = pick (test x) (named_so test xs each.1)
     pick : (b : Bool) → IsRunIfAny (find test xs) → IsRunIfAny (cond b (Some x) (find test xs))
     pick true later = each.0
     pick false later = later
-
-another : {X : Type 0} → false ≡ true → X
-another e = cc
 
 all_named : EachIsRun (built simple_command).subs
 all_named = (another, ((λ e. run_keeps), (another, (another, (another, tt)))))

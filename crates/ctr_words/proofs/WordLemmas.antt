@@ -20,7 +20,7 @@ use Rattle.clap.specs.declared.parser.matches.ArgMatches.{ArgMatches}
 use Rattle.clap.proofs.ValueTestLemmas.{Accepts-accepts, accepts-Accepts}
 use Rattle.ctr_words.specs.declared.words.Subcommand.{Subcommand}
 use Rattle.ctr_words.specs.declared.words.Subcommand.TheVariants as asked
-use Rattle.ctr_words.specs.Words.{asks_threads, command_asked, frames_asked, has_folder, load_asked, number_of_option, number_of_digits, command_named, simple_command, unless_fault, AreInRange}
+use Rattle.ctr_words.specs.Words.{asks_threads, command_asked, frames_asked, has_folder, keys_asked, load_asked, number_of_option, number_of_digits, number_or, command_named, simple_command, unless_fault, AreInRange}
 use Rattle.ctr_words.specs.Read.{is_number, IsRunRead}
 use Rattle.ctr_words.proofs.FaultFree.{Fine, frames_filled, run_fine}
 
@@ -141,15 +141,6 @@ all_read words fault = go (subcommand_of simple_command words) refl
 
 -- ---- 8 to 4,096
 
-asked_fits : (rows : List Row) → is_number rows ≡ true → (threads : Bool) → AreInRange (asked.Run (frames_asked rows) threads)
-asked_fits rows number threads = go (one_of (codes "frames") rows) number
-  where
-    go : (o : Option Text) → option_map_or (is_unsigned_in 8 4096) o true ≡ true → AreInRange (asked.Run (option_map_or number_of_digits o 64) threads)
-    go None e = (omega arith, omega arith)
-    go (Some text) e =
-        let accepted = accepts-Accepts false (Unsigned 8 4096) text e in
-        (accepted.2, accepted.3)
-
 number_fits : (name : Text) (least most n : ℕ) (rows : List Row) → number_of_option name least most rows ≡ Some n → (least ≤ n) × (n ≤ most)
 number_fits name least most n rows is = by_text (one_of name rows) is
   where
@@ -164,33 +155,56 @@ number_fits name least most n rows is = by_text (one_of name rows) is
             (subst (λ m. least ≤ m) here accepted.2, subst (λ m. m ≤ most) here accepted.3)
         pick false told same = absurd cc
 
+number_or-fits : (name : Text) (least most otherwise : ℕ) (rows : List Row) → least ≤ otherwise → otherwise ≤ most
+    → (least ≤ number_or name least most otherwise rows) × (number_or name least most otherwise rows ≤ most)
+number_or-fits name least most otherwise rows low high = go (number_of_option name least most rows) refl
+  where
+    go : (o : Option ℕ) → number_of_option name least most rows ≡ o → (least ≤ unwrap_or o otherwise) × (unwrap_or o otherwise ≤ most)
+    go None is = (low, high)
+    go (Some n) is = number_fits name least most n rows is
+
+keys_fit : (rows : List Row) → keys_asked rows ≤ 1048576
+keys_fit rows = (number_or-fits (codes "keys") 0 1048576 1048576 rows (omega arith) (omega arith)).1
+
+frames_fit : (rows : List Row) → (8 ≤ number_or (codes "frames") 8 4096 64 rows) × (number_or (codes "frames") 8 4096 64 rows ≤ 4096)
+frames_fit rows = number_or-fits (codes "frames") 8 4096 64 rows (omega arith) (omega arith)
+
+asked_fits : (rows : List Row) → is_number rows ≡ true → (threads : Bool) → AreInRange (asked.Run (frames_asked rows) threads (keys_asked rows))
+asked_fits rows number threads = go (one_of (codes "frames") rows) number
+  where
+    go : (o : Option Text) → option_map_or (is_unsigned_in 8 4096) o true ≡ true → AreInRange (asked.Run (option_map_or number_of_digits o 64) threads (keys_asked rows))
+    go None e = (omega arith, omega arith, keys_fit rows)
+    go (Some text) e =
+        let accepted = accepts-Accepts false (Unsigned 8 4096) text e in
+        (accepted.2, accepted.3, keys_fit rows)
+
 load_fits : (rows : List Row) (s : Subcommand) → load_asked rows ≡ Some s → AreInRange s
 load_fits rows s is =
-    go (number_of_option (codes "frames") 8 4096 rows) (number_of_option (codes "sessions") 1 8 rows) (number_of_option (codes "count") 0 1000000 rows) (number_of_option (codes "seed") 0 18446744073709551615 rows)
-    (λ n e. number_fits (codes "frames") 8 4096 n rows e) (λ n e. number_fits (codes "sessions") 1 8 n rows e) (λ n e. number_fits (codes "count") 0 1000000 n rows e) is
+    go (number_of_option (codes "sessions") 1 8 rows) (number_of_option (codes "count") 0 1000000 rows) (number_of_option (codes "seed") 0 18446744073709551615 rows)
+    (λ n e. number_fits (codes "sessions") 1 8 n rows e) (λ n e. number_fits (codes "count") 0 1000000 n rows e) is
   where
-    go : (frames sessions count seed : Option ℕ) → ((n : ℕ) → frames ≡ Some n → (8 ≤ n) × (n ≤ 4096)) → ((n : ℕ) → sessions ≡ Some n → (1 ≤ n) × (n ≤ 8)) → ((n : ℕ) → count ≡ Some n → (0 ≤ n) × (n ≤ 1000000))
-        → option_and_then (λ a. option_and_then (λ b. option_map (λ c. asked.Load (unwrap_or frames 64) (asks_threads rows) a b c) seed) count) sessions ≡ Some s → AreInRange s
-    go frames None count seed f g h e = absurd cc
-    go frames (Some a) None seed f g h e = absurd cc
-    go frames (Some a) (Some b) None f g h e = absurd cc
-    go None (Some a) (Some b) (Some c) f g h e =
-        let here : asked.Load 64 (asks_threads rows) a b c ≡ s = cc in
-        subst AreInRange here (omega arith, omega arith, (g a refl).0, (g a refl).1, (h b refl).1)
-    go (Some n) (Some a) (Some b) (Some c) f g h e =
-        let here : asked.Load n (asks_threads rows) a b c ≡ s = cc in
-        subst AreInRange here ((f n refl).0, (f n refl).1, (g a refl).0, (g a refl).1, (h b refl).1)
+    frames : ℕ
+    frames = number_or (codes "frames") 8 4096 64 rows
+
+    go : (sessions count seed : Option ℕ) → ((n : ℕ) → sessions ≡ Some n → (1 ≤ n) × (n ≤ 8)) → ((n : ℕ) → count ≡ Some n → (0 ≤ n) × (n ≤ 1000000))
+        → option_and_then (λ a. option_and_then (λ b. option_map (λ c. asked.Load frames (asks_threads rows) (keys_asked rows) a b c) seed) count) sessions ≡ Some s → AreInRange s
+    go None count seed g h e = absurd cc
+    go (Some a) None seed g h e = absurd cc
+    go (Some a) (Some b) None g h e = absurd cc
+    go (Some a) (Some b) (Some c) g h e =
+        let here : asked.Load frames (asks_threads rows) (keys_asked rows) a b c ≡ s = cc in
+        subst AreInRange here ((frames_fit rows).0, (frames_fit rows).1, keys_fit rows, (g a refl).0, (g a refl).1, (h b refl).1)
 
 named_fits : (met : Text × List Row) (s : Subcommand) → IsRunRead met → command_named met ≡ Some s → AreInRange s
 named_fits met s read is = go (bytes_eq met.0 (codes "init")) (bytes_eq met.0 (codes "run")) (bytes_eq met.0 (codes "load")) (bytes_eq met.0 (codes "report")) refl is
   where
     go : (init run load report : Bool) → bytes_eq met.0 (codes "run") ≡ run
-        → (if init then Some asked.Init else if run then Some (asked.Run (frames_asked met.1) (asks_threads met.1)) else if load then load_asked met.1 else if report then Some asked.Report else None) ≡ Some s → AreInRange s
+        → (if init then Some asked.Init else if run then Some (asked.Run (frames_asked met.1) (asks_threads met.1) (keys_asked met.1)) else if load then load_asked met.1 else if report then Some asked.Report else None) ≡ Some s → AreInRange s
     go true run load report met_run same =
         let here : asked.Init ≡ s = cc in
         subst AreInRange here tt
     go false true load report met_run same =
-        let here : asked.Run (frames_asked met.1) (asks_threads met.1) ≡ s = cc in
+        let here : asked.Run (frames_asked met.1) (asks_threads met.1) (keys_asked met.1) ≡ s = cc in
         subst AreInRange here (asked_fits met.1 (read met_run) (asks_threads met.1))
     go false false true report met_run same = load_fits met.1 s same
     go false false false true met_run same =

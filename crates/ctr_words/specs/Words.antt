@@ -18,13 +18,16 @@ use Rattle.ctr_words.specs.declared.words.WordsError.TheVariants as error
 abbrev pub over_folder : Text → App
 over_folder name = with_rule (new_app name) (record (new_rule (codes "DIR")) { required = true })
 
+-- an option of two dashes and a name, with a value
+abbrev pub value_rule : Text → Rule
+value_rule name = record (new_rule name) {
+  long = Some name;
+  action = Some Set;
+}
+
 -- the option `--frames`, with a number of 8 to 4,096
 abbrev pub frames_rule : Rule
-frames_rule = record (new_rule (codes "frames")) {
-  long = Some (codes "frames");
-  action = Some Set;
-  parser = Some (Signed (pos 8) (pos 4096));
-}
+frames_rule = record (value_rule (codes "frames")) { parser = Some (Signed (pos 8) (pos 4096)) }
 
 -- the option `--threads`, without a value
 abbrev pub threads_rule : Rule
@@ -35,18 +38,20 @@ threads_rule = record (new_rule (codes "threads")) {
 
 -- an option that has to be there, with a number from one to another
 abbrev pub number_rule : Text → ℕ → ℕ → Rule
-number_rule name least most = record (new_rule name) {
-  long = Some name;
+number_rule name least most = record (value_rule name) {
   required = true;
-  action = Some Set;
   parser = Some (Unsigned least most);
 }
 
--- the options `--threads` and `--frames`, of a run and of a load
-abbrev pub with_pace : App → App
-with_pace a = with_rule (with_rule a threads_rule) frames_rule
+-- the option `--keys`, with a number of 0 to 1,048,576
+abbrev pub keys_rule : Rule
+keys_rule = record (value_rule (codes "keys")) { parser = Some (Unsigned 0 1048576) }
 
--- `load DIR --sessions S --count C --seed X [--threads] [--frames N]`
+-- the options `--threads`, `--frames` and `--keys`, of a run and of a load
+abbrev pub with_pace : App → App
+with_pace a = with_rule (with_rule (with_rule a threads_rule) frames_rule) keys_rule
+
+-- `load DIR --sessions S --count C --seed X [--threads] [--frames N] [--keys K]`
 abbrev pub load_command : App
 load_command = with_pace (with_rule (with_rule (with_rule (over_folder (codes "load"))
     (number_rule (codes "sessions") 1 8)) (number_rule (codes "count") 0 1000000))
@@ -62,7 +67,8 @@ no_command = record (new_app (codes "ctr")) {
 abbrev pub or_command : App → App → App
 or_command a below = with_subcommand a below.top
 
--- The simple command: `init DIR`, `run DIR [--threads] [--frames N]`, the load and `report DIR`.
+-- The simple command: `init DIR`, `run DIR [--threads] [--frames N] [--keys K]`, the load and
+-- `report DIR`.
 abbrev pub simple_command : App
 simple_command = or_command (or_command (or_command (or_command no_command
     (over_folder (codes "init"))) (with_pace (over_folder (codes "run"))))
@@ -98,11 +104,22 @@ number_of_option name least most rows =
     option_and_then (λ t. if is_unsigned_in least most t then Some (number_of_digits t) else None)
     (one_of name rows)
 
+-- the number that the rows have for an option, from one to another; a given one where they have
+-- none
+abbrev pub number_or : Text → ℕ → ℕ → ℕ → List Row → ℕ
+number_or name least most otherwise rows =
+    unwrap_or (number_of_option name least most rows) otherwise
+
+-- the keys of rows that the rows of a run or a load ask to remember at most: 1,048,576 where they
+-- have none
+abbrev pub keys_asked : List Row → ℕ
+keys_asked = number_or (codes "keys") 0 1048576 1048576
+
 -- The load that the rows ask for, where they have its three numbers; 64 frames where they have
 -- none.
 abbrev pub load_asked : List Row → Option Subcommand
 load_asked rows = option_and_then (λ sessions. option_and_then (λ count. option_map (λ seed.
-    asked.Load (unwrap_or (number_of_option (codes "frames") 8 4096 rows) 64) (asks_threads rows)
+    asked.Load (number_or (codes "frames") 8 4096 64 rows) (asks_threads rows) (keys_asked rows)
     sessions count seed)
     (number_of_option (codes "seed") 0 18446744073709551615 rows))
     (number_of_option (codes "count") 0 1000000 rows))
@@ -112,7 +129,7 @@ load_asked rows = option_and_then (λ sessions. option_and_then (λ count. optio
 abbrev pub command_named : Text × List Row → Option Subcommand
 command_named met = if bytes_eq met.0 (codes "init") then Some asked.Init
     else if bytes_eq met.0 (codes "run") then Some
-    (asked.Run (frames_asked met.1) (asks_threads met.1))
+    (asked.Run (frames_asked met.1) (asks_threads met.1) (keys_asked met.1))
     else if bytes_eq met.0 (codes "load") then load_asked met.1
     else if bytes_eq met.0 (codes "report") then Some asked.Report else None
 
@@ -132,10 +149,11 @@ command_asked words = if has_folder words
 abbrev pub AsksForNothing : Option Subcommand → WordsError → Type 0
 AsksForNothing asked e = ((e ≡ error.Usage) × (asked ≡ None)) ⊎ (e ≡ error.OutOfMemory)
 
--- Frames are 8 to 4,096; a load has 1 to 8 sessions, and no more than 1,000,000 rounds.
+-- Frames are 8 to 4,096, and keys no more than 1,048,576; a load has 1 to 8 sessions, and no more
+-- than 1,000,000 rounds.
 abbrev pub AreInRange : Subcommand → Type 0
-AreInRange (asked.Run frames threads) = (8 ≤ frames) × (frames ≤ 4096)
-AreInRange (asked.Load frames threads sessions count seed) = (8 ≤ frames) × (frames ≤ 4096)
-    × (1 ≤ sessions) × (sessions ≤ 8) × (count ≤ 1000000)
+AreInRange (asked.Run frames threads keys) = (8 ≤ frames) × (frames ≤ 4096) × (keys ≤ 1048576)
+AreInRange (asked.Load frames threads keys sessions count seed) = (8 ≤ frames) × (frames ≤ 4096)
+    × (keys ≤ 1048576) × (1 ≤ sessions) × (sessions ≤ 8) × (count ≤ 1000000)
 AreInRange asked.Init = ⊤
 AreInRange asked.Report = ⊤

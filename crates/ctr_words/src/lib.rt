@@ -3,4 +3,4 @@
 
 mod words;
 
-pub use words::{FRAMES, Subcommand, WordsError, command};
+pub use words::{FRAMES, KEYS, Subcommand, WordsError, command};

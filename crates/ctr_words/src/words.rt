@@ -3,8 +3,8 @@ ghost use Rattle.std.specs.Prelude.{◌≡◌, map, true, false, IfOk, IfErr, So
 ghost use Rattle.std.specs.String.{string_bytes};
 ghost use Rattle.clap.specs.Words.{app_of, found_of, rows_of, rule_of, subcommand_rows_of};
 ghost use Rattle.clap.specs.declared.builder.command.Command.TheViews.{out-Command as fields_of};
-ghost use Rattle.ctr_words.specs.Words.{frames_rule, threads_rule, number_rule, load_command, simple_command, has_folder};
-ghost use Rattle.ctr_words.specs.Words.{number_of_option, frames_asked, asks_threads, load_asked, command_named};
+ghost use Rattle.ctr_words.specs.Words.{value_rule, frames_rule, threads_rule, keys_rule, number_rule, with_pace, load_command, simple_command, has_folder};
+ghost use Rattle.ctr_words.specs.Words.{number_of_option, number_or, frames_asked, keys_asked, asks_threads, load_asked, command_named};
 ghost use Rattle.ctr_words.specs.Words.{command_asked, AsksForNothing, AreInRange};
 ghost use Rattle.ctr_words.specs.Read.{is_number, IsRunRead};
 
@@ -15,21 +15,27 @@ use std::alloc::{AllocError, Global};
 /// How many frames a run's pool of pages has, if the words don't say.
 pub const FRAMES: u16 = 64;
 
+/// How many keys of rows are remembered at most, if the words don't say; they can't ask for more.
+pub const KEYS: u32 = 1_048_576;
+
 /// What the program is asked to do.
 #[derive(Clone, Copy, Debug, PartialEq, Eq)]
 pub enum Subcommand {
     /// Makes the empty database.
     Init,
-    /// Runs the script of the source, over a pool of so many frames: 8 to 4,096; its sessions side by side, where threads are asked for.
+    /// Runs the script of the source, over a pool of so many frames: 8 to 4,096; its sessions side by side, where threads are asked for; so
+    /// many keys of rows are remembered at most: 0 to 1,048,576.
     Run {
         frames: u16,
         threads: bool,
+        keys: u32,
     },
     /// Runs a generated script of so many sessions, 1 to 8, and so many rounds, up to 1,000,000, drawn from a seed, over a pool of so many
-    /// frames: 8 to 4,096; its sessions side by side, where threads are asked for.
+    /// frames: 8 to 4,096; its sessions side by side, where threads are asked for; so many keys of rows are remembered at most: 0 to 1,048,576.
     Load {
         frames: u16,
         threads: bool,
+        keys: u32,
         sessions: u8,
         count: u64,
         seed: u64,
@@ -50,14 +56,18 @@ pub enum WordsError {
     OutOfMemory,
 }
 
+// An option with a value.
+fn value_option<'a>(alloc: Global, name: &'a str) -> Arg<'a>
+    ensures { (rule_of result ≡ value_rule name.now) × (result.global ≡ false) }
+{
+    Arg::new(alloc, name).long(name).action(ArgAction::Set)
+}
+
 // The option of a run, and of a load.
 fn frames_option<'a>(alloc: Global) -> Arg<'a>
     ensures { (rule_of result ≡ frames_rule) × (result.global ≡ false) }
 {
-    Arg::new(alloc, "frames")
-        .long("frames")
-        .action(ArgAction::Set)
-        .value_parser(clap::value_parser!(u16).range(8..=4096))
+    value_option(alloc, "frames").value_parser(clap::value_parser!(u16).range(8..=4096))
 }
 
 // The other option of both.
@@ -69,14 +79,19 @@ fn threads_option<'a>(alloc: Global) -> Arg<'a>
         .action(ArgAction::SetTrue)
 }
 
+// The last option of both.
+fn keys_option<'a>(alloc: Global) -> Arg<'a>
+    ensures { (rule_of result ≡ keys_rule) × (result.global ≡ false) }
+{
+    value_option(alloc, "keys").value_parser(clap::value_parser!(u64).range(0..=1_048_576))
+}
+
 // The number of a load's sessions.
 fn sessions_option<'a>(alloc: Global) -> Arg<'a>
     ensures { (rule_of result ≡ number_rule (codes "sessions") 1 8) × (result.global ≡ false) }
 {
-    Arg::new(alloc, "sessions")
-        .long("sessions")
+    value_option(alloc, "sessions")
         .required(true)
-        .action(ArgAction::Set)
         .value_parser(clap::value_parser!(u64).range(1..=8))
 }
 
@@ -84,10 +99,8 @@ fn sessions_option<'a>(alloc: Global) -> Arg<'a>
 fn count_option<'a>(alloc: Global) -> Arg<'a>
     ensures { (rule_of result ≡ number_rule (codes "count") 0 1000000) × (result.global ≡ false) }
 {
-    Arg::new(alloc, "count")
-        .long("count")
+    value_option(alloc, "count")
         .required(true)
-        .action(ArgAction::Set)
         .value_parser(clap::value_parser!(u64).range(0..=1_000_000))
 }
 
@@ -95,11 +108,18 @@ fn count_option<'a>(alloc: Global) -> Arg<'a>
 fn seed_option<'a>(alloc: Global) -> Arg<'a>
     ensures { (rule_of result ≡ number_rule (codes "seed") 0 18446744073709551615) × (result.global ≡ false) }
 {
-    Arg::new(alloc, "seed")
-        .long("seed")
+    value_option(alloc, "seed")
         .required(true)
-        .action(ArgAction::Set)
         .value_parser(clap::value_parser!(u64))
+}
+
+// A command with the options of a run and of a load.
+fn with_pace<'a>(over: Command<'a>, alloc: Global) -> Result<Command<'a>, AllocError>
+    ensures { IfOk result (λ c. (app_of c ≡ with_pace (app_of over.entry)) × ((fields_of over.entry).has_globals ≡ false → (fields_of c).has_globals ≡ false)) }
+{
+    let beside = over.arg(threads_option(alloc))?;
+    let paced = beside.arg(frames_option(alloc))?;
+    paced.arg(keys_option(alloc))
 }
 
 // The command of a load.
@@ -110,8 +130,7 @@ fn load<'a>(alloc: Global) -> Result<Command<'a>, AllocError>
     let of_sessions = over.arg(sessions_option(alloc))?;
     let of_rounds = of_sessions.arg(count_option(alloc))?;
     let drawn = of_rounds.arg(seed_option(alloc))?;
-    let beside = drawn.arg(threads_option(alloc))?;
-    beside.arg(frames_option(alloc))
+    with_pace(drawn, alloc)
 }
 
 // The program's command line.
@@ -120,8 +139,7 @@ fn simple<'a>(alloc: Global) -> Result<Command<'a>, AllocError>
 {
     let init = Command::new(alloc, "init").arg(Arg::new(alloc, "DIR").required(true))?;
     let over = Command::new(alloc, "run").arg(Arg::new(alloc, "DIR").required(true))?;
-    let beside = over.arg(threads_option(alloc))?;
-    let run = beside.arg(frames_option(alloc))?;
+    let run = with_pace(over, alloc)?;
     let report = Command::new(alloc, "report").arg(Arg::new(alloc, "DIR").required(true))?;
     Command::new(alloc, "ctr")
         .no_binary_name(true)
@@ -173,6 +191,20 @@ fn number(matches: &ArgMatches<'_>, name: &str, least: u64, most: u64) -> Option
     within(matches.get_one(name), least, most)
 }
 
+// The number of an option, in a range; another where there is none.
+fn number_or(matches: &ArgMatches<'_>, name: &str, least: u64, most: u64, otherwise: u64) -> u64
+    ensures { result ≡ number_or name.now least most otherwise (rows_of (found_of matches.now)) }
+{
+    number(matches, name, least, most).unwrap_or(otherwise)
+}
+
+// The keys that are asked for.
+fn keys(matches: &ArgMatches<'_>) -> u32
+    ensures { result ≡ keys_asked (rows_of (found_of matches.now)) }
+{
+    number_or(matches, "keys", 0, u64::from(KEYS), u64::from(KEYS)) as u32
+}
+
 // A load, with its numbers.
 fn load_met(matches: &ArgMatches<'_>) -> Option<Subcommand>
     ensures { result ≡ load_asked (rows_of (found_of matches.now)) }
@@ -180,10 +212,11 @@ fn load_met(matches: &ArgMatches<'_>) -> Option<Subcommand>
     let sessions = number(matches, "sessions", 1, 8)?;
     let count = number(matches, "count", 0, MOST_ROUNDS)?;
     let seed = number(matches, "seed", 0, u64::MAX)?;
-    let frames = number(matches, "frames", 8, 4096).unwrap_or(u64::from(FRAMES));
+    let frames = number_or(matches, "frames", 8, 4096, u64::from(FRAMES));
     Some(Subcommand::Load {
         frames: frames as u16,
         threads: threads(matches),
+        keys: keys(matches),
         sessions: sessions as u8,
         count,
         seed,
@@ -199,6 +232,7 @@ fn named(name: &str, matches: &ArgMatches<'_>) -> Option<Subcommand>
         "run" => Some(Subcommand::Run {
             frames: frames(matches),
             threads: threads(matches),
+            keys: keys(matches),
         }),
         "load" => load_met(matches),
         "report" => Some(Subcommand::Report),
@@ -231,8 +265,8 @@ fn parse(alloc: Global, words: &[String]) -> Result<Option<Subcommand>, AllocErr
     }
 }
 
-/// What the words behind the program's name ask for: `init DIR`, `run DIR [--threads] [--frames N]`,
-/// `load DIR --sessions S --count C --seed X [--threads] [--frames N]` or `report DIR`.
+/// What the words behind the program's name ask for: `init DIR`, `run DIR [--threads] [--frames N] [--keys K]`,
+/// `load DIR --sessions S --count C --seed X [--threads] [--frames N] [--keys K]` or `report DIR`.
 /// Words that are no command are refused with `Usage`.
 pub fn command(alloc: Global, words: &[String]) -> Result<Subcommand, WordsError>
     ensures asked { IfOk result (λ s. command_asked (map string_bytes words.now) ≡ Some s) }

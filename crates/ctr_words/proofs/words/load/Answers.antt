@@ -1,7 +1,7 @@
 use Rattle.std.proofs.Common.{◌≡◌, ◌∙◌, ap, ap₂, codes, true}
 use Rattle.std.specs.Prelude.{◌||◌}
 use Rattle.clap.specs.Words.{Rule, app_of, new_rule, rule_of, with_rule}
-use Rattle.ctr_words.specs.Words.{over_folder}
+use Rattle.ctr_words.specs.Words.{over_folder, with_pace}
 use Rattle.std.proofs.lemmas.Result.{IfOk-weaker}
 use Rattle.ctr_words.proofs.words.load.Goals as goal
 
@@ -19,13 +19,8 @@ returns c =
     let one = c.in_ok-of_sessions.ensures.shape c.sessions_option.ensures.1 ∙ ap₂ with_rule over c.sessions_option.ensures.0 in
     let two = c.in_ok-of_rounds.ensures.shape c.count_option.ensures.1 ∙ ap₂ with_rule one c.count_option.ensures.0 in
     let three = c.in_ok-drawn.ensures.shape c.seed_option.ensures.1 ∙ ap₂ with_rule two c.seed_option.ensures.0 in
-    let four = c.in_ok-beside.ensures.shape c.threads_option.ensures.1 ∙ ap₂ with_rule three c.threads_option.ensures.0 in
     let local = c.in_ok-over.ensures.globals ∙ ap₂ (λ x y. x || y) c.new.ensures.local own in
     let local_one = c.in_ok-of_sessions.ensures.globals ∙ ap₂ (λ x y. x || y) local c.sessions_option.ensures.1 in
     let local_two = c.in_ok-of_rounds.ensures.globals ∙ ap₂ (λ x y. x || y) local_one c.count_option.ensures.1 in
     let local_three = c.in_ok-drawn.ensures.globals ∙ ap₂ (λ x y. x || y) local_two c.seed_option.ensures.1 in
-    let local_four = c.in_ok-beside.ensures.globals ∙ ap₂ (λ x y. x || y) local_three c.threads_option.ensures.1 in
-    IfOk-weaker c.arg-6.result _ _ (λ made adds. (
-      adds.shape c.frames_option.ensures.1 ∙ ap₂ with_rule four c.frames_option.ensures.0,
-      adds.globals ∙ ap₂ (λ x y. x || y) local_four c.frames_option.ensures.1,
-    )) c.arg-6.ensures
+    IfOk-weaker c.with_pace.result _ _ (λ made adds. (adds.0 ∙ ap with_pace three, adds.1 local_three)) c.with_pace.ensures

@@ -3,7 +3,7 @@ use Rattle.std.specs.Prelude.{◌||◌}
 use Rattle.std.proofs.lemmas.Result.{IfOk-weaker}
 use Rattle.clap.specs.Words.{App, Rule, Shape, app_of, new_rule, rule_of, with_rule, with_subcommand}
 use Rattle.clap.specs.Simple.{app_of_fields}
-use Rattle.ctr_words.specs.Words.{over_folder, threads_rule, with_pace, no_command}
+use Rattle.ctr_words.specs.Words.{over_folder, with_pace, no_command}
 use Rattle.ctr_words.proofs.words.simple.Goals as goal
 
 abbrev folder : Rule
@@ -25,15 +25,11 @@ returns c =
     let own_3 = ap (λ a. a.global) c.required-3.ensures ∙ c.new-6.ensures.optional.1 in
     let init : app_of c.in_ok-init.init ≡ over_folder (codes "init") = c.in_ok-init.ensures.shape own_1 ∙ ap₂ with_rule c.new.ensures.app folder_1 in
     let over : app_of c.in_ok-over.over ≡ over_folder (codes "run") = c.in_ok-over.ensures.shape own_2 ∙ ap₂ with_rule c.new-3.ensures.app folder_2 in
-    let beside : app_of c.in_ok-beside.beside ≡ with_rule (over_folder (codes "run")) threads_rule =
-    c.in_ok-beside.ensures.shape c.threads_option.ensures.1 ∙ ap₂ with_rule over c.threads_option.ensures.0 in
-    let run : app_of c.in_ok-run.run' ≡ with_pace (over_folder (codes "run")) =
-    c.in_ok-run.ensures.shape c.frames_option.ensures.1 ∙ ap₂ with_rule beside c.frames_option.ensures.0 in
+    let run : app_of c.in_ok-run.run' ≡ with_pace (over_folder (codes "run")) = c.in_ok-run.ensures.0 ∙ ap with_pace over in
     let report : app_of c.in_ok-report.report ≡ over_folder (codes "report") = c.in_ok-report.ensures.shape own_3 ∙ ap₂ with_rule c.new-5.ensures.app folder_3 in
     let local_1 = c.in_ok-init.ensures.globals ∙ ap₂ (λ x y. x || y) c.new.ensures.local own_1 in
     let local_over = c.in_ok-over.ensures.globals ∙ ap₂ (λ x y. x || y) c.new-3.ensures.local own_2 in
-    let local_beside = c.in_ok-beside.ensures.globals ∙ ap₂ (λ x y. x || y) local_over c.threads_option.ensures.1 in
-    let local_2 = c.in_ok-run.ensures.globals ∙ ap₂ (λ x y. x || y) local_beside c.frames_option.ensures.1 in
+    let local_2 = c.in_ok-run.ensures.1 local_over in
     let local_3 = c.in_ok-report.ensures.globals ∙ ap₂ (λ x y. x || y) c.new-5.ensures.local own_3 in
     let none : app_of c.subcommand_required.result ≡ no_command = ap app_of_fields c.subcommand_required.ensures ∙ ap (λ f. app_of_fields (record f { subcommand_required = true })) c.no_binary_name.ensures
     ∙ ap (λ (a : App). record a { top = record a.top { no_binary_name = true; subcommand_required = true } }) c.new-7.ensures.app in
