@@ -54,11 +54,12 @@ fn named_sessions(script: &Script) -> u8 {
     sessions
 }
 
-// The World of a script over the disk that a type names; or a run of nothing.
+// The World of a script over the disk that a type names, which remembers so many keys of rows at most; or a run of nothing.
 fn opened<D: Disk, B: Origin + Opening>(
     alloc: Global,
     disk: D,
     frames: usize,
+    keys: usize,
     script: Script,
 ) -> Result<World<D, B>, Ran<D>>
     requires named { IsOpenedOn B.Opening B.first D.Disk disk script.lines }
@@ -70,7 +71,10 @@ fn opened<D: Disk, B: Origin + Opening>(
     ensures none { IfErr result IsUnopened }
 {
     match World::<D, B>::open(alloc, disk, frames, script) {
-        Ok(world) => Ok(world),
+        Ok(mut world) => {
+            world.allow_keys(keys);
+            Ok(world)
+        }
         Err((error, disk)) => Err(Ran::none(alloc, error, disk)),
     }
 }
@@ -100,6 +104,7 @@ fn run_opened<D: Disk, B: Origin + Opening>(
     alloc: Global,
     disk: D,
     frames: usize,
+    keys: usize,
     script: Script,
     schedule: Schedule<'_>,
     totals: bool,
@@ -114,7 +119,7 @@ fn run_opened<D: Disk, B: Origin + Opening>(
     let Ok(sessions) = sessions_of(alloc, &script) else {
         return Ran::none(alloc, OpenError::OutOfMemory, disk);
     };
-    let mut world = match opened::<D, B>(alloc, disk, frames, script) {
+    let mut world = match opened::<D, B>(alloc, disk, frames, keys, script) {
         Ok(world) => world,
         Err(ran) => return ran,
     };
@@ -133,6 +138,7 @@ fn run_opened_on_threads<
     alloc: Global,
     disk: D,
     frames: usize,
+    keys: usize,
     script: Script,
     totals: bool,
 ) -> Ran<D>
@@ -144,7 +150,7 @@ fn run_opened_on_threads<
     ensures turns { workers.entry.first ≡ 0 → ((e : HeldError) → result.end ≡ Unopened e → ⊥) → ∥ CameByTurns D.Disk script.lines result.left.tape.entries ∥₁ }
 {
     let sessions = named_sessions(&script);
-    let mut world = match opened::<D, B>(alloc, disk, frames, script) {
+    let mut world = match opened::<D, B>(alloc, disk, frames, keys, script) {
         Ok(world) => world,
         Err(ran) => return ran,
     };
@@ -153,13 +159,14 @@ fn run_opened_on_threads<
     finished(alloc, world, totals)
 }
 
-/// Runs a script over the database of a disk, with so many frames for its pages, 8 to 4,096, and makes all durable. It goes on until all statements are
-/// finished and nothing is left of recovery's undo, or the World stops. Memory is refused only before the first entry, or by replies. A run that is
+/// Runs a script over the database of a disk, with so many frames for its pages, 8 to 4,096, and so many keys of rows remembered at most, and makes all
+/// durable. It goes on until all statements are finished and nothing is left of recovery's undo, or the World stops. Memory is refused only before the first entry, or by replies. A run that is
 /// finished counts the rows of the loaded table, where that is asked for, and the sum of its second column.
 pub fn run<D: Disk>(
     alloc: Global,
     disk: D,
     frames: usize,
+    keys: usize,
     script: Script,
     schedule: Schedule<'_>,
     totals: bool,
@@ -182,7 +189,7 @@ pub fn run<D: Disk>(
     // Where nothing fails, what is opened is finished, or comes to the last number of a record.
     ensures complete { (s : State) → IsTrue D.tells → StandsForDatabase (D.reads disk) s → EndsAsAsked D.Disk disk result.left.disk result.end }
 {
-    run_opened::<D, Brand>(alloc, disk, frames, script, schedule, totals)
+    run_opened::<D, Brand>(alloc, disk, frames, keys, script, schedule, totals)
 }
 
 /// Runs a script as `run` does, but each session that it names, the flusher, the cleaner and undo have a thread of their own, and take their turns as the
@@ -192,6 +199,7 @@ pub fn run_on_threads<R: Threads + Wait + Sync, D: Disk + Send, G: Gate + Sync>(
     alloc: Global,
     disk: D,
     frames: usize,
+    keys: usize,
     script: Script,
     totals: bool,
 ) -> Ran<D>
@@ -202,5 +210,5 @@ pub fn run_on_threads<R: Threads + Wait + Sync, D: Disk + Send, G: Gate + Sync>(
     // finished.
     ensures turns { workers.entry.first ≡ 0 → ((e : HeldError) → result.end ≡ Unopened e → ⊥) → ∥ CameByTurns D.Disk script.lines result.left.tape.entries ∥₁ }
 {
-    run_opened_on_threads::<R, D, Brand, G>(workers, alloc, disk, frames, script, totals)
+    run_opened_on_threads::<R, D, Brand, G>(workers, alloc, disk, frames, keys, script, totals)
 }

@@ -82,7 +82,7 @@ fn serial_plainly<D: Disk, S: Source, K: Sink>(
     }
 }
 
-// The one function that calls `run_script`.
+// The one function that calls `run_script`. With few frames go few keys that are remembered, so that buckets are forgotten too.
 fn turns_plainly<D: Disk, S: Source>(
     alloc: Global,
     disk: D,
@@ -92,7 +92,8 @@ fn turns_plainly<D: Disk, S: Source>(
 ) -> Left<D>
     requires frames { (8 ≤ frames) × (frames ≤ 4096) }
 {
-    let outcome = run_script(alloc, disk, frames, source, Schedule::Turns(actors));
+    let keys = if frames < 64 { frames } else { 1 << 20 };
+    let outcome = run_script(alloc, disk, frames, keys, source, Schedule::Turns(actors));
     let left = outcome.left;
     Left {
         status: outcome.ending.status(),

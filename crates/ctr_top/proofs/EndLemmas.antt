@@ -88,7 +88,7 @@ module _ {D S : Type 0} (s : Source S) (asked : Option Subcommand) (old : D) (e 
   }
 
   -- a command that was
-  pub minds_some : (it : Subcommand) → asked ≡ Some it → (e.ending ≡ ending.Usage → ⊥) → (source new : S) → (((frames : ℕ) (threads : Bool) → asked ≡ Some (subcommand.Run frames threads) → ⊥) → new ≡ source) → MindsWords s asked old e source new
+  pub minds_some : (it : Subcommand) → asked ≡ Some it → (e.ending ≡ ending.Usage → ⊥) → (source new : S) → (((frames : ℕ) (threads : Bool) (keys : ℕ) → asked ≡ Some (subcommand.Run frames threads keys) → ⊥) → new ≡ source) → MindsWords s asked old e source new
   minds_some it is begun source new reads = record {
     usage = λ usage. absurd (begun usage);
     none = λ none. absurd (cc (none, is));

@@ -34,7 +34,7 @@ use Rattle.ctr_top.proofs.ScriptLemmas.{run_line}
 
 -- the lines that a load asks for
 abbrev pub lines_asked : Option Subcommand → List Line
-lines_asked (Some (subcommand.Load frames threads sessions count seed)) = generated sessions count seed
+lines_asked (Some (subcommand.Load frames threads keys sessions count seed)) = generated sessions count seed
 lines_asked _ = []
 
 spelled_run : (ls : List Line) → AllByRecursion IsSpelled ls → AllByRecursion IsRunLine ls
@@ -50,7 +50,7 @@ generated_runs spelled few sessions count seed some most small = record {
 
 -- whether the load is on threads
 abbrev pub threads_asked : Option Subcommand → Bool
-threads_asked (Some (subcommand.Load frames threads sessions count seed)) = threads
+threads_asked (Some (subcommand.Load frames threads keys sessions count seed)) = threads
 threads_asked _ = false
 
 -- the script was made and run

@@ -247,8 +247,8 @@ pub record MindsWords {D S : Type 0} (s : Source S) (asked : Option Subcommand) 
   pub usage : e.ending ≡ ending.Usage → asked ≡ None
   pub none : asked ≡ None → (e.ending ≡ ending.Usage) ⊎ (e.ending ≡ ending.OutOfMemory)
   pub untouched : asked ≡ None → (e.left.disk ≡ old) × IsUnrun e.left
-  pub only_run_reads : ((frames : ℕ) (threads : Bool)
-      → asked ≡ Some (subcommand.Run frames threads) → ⊥)
+  pub only_run_reads : ((frames : ℕ) (threads : Bool) (keys : ℕ)
+      → asked ≡ Some (subcommand.Run frames threads keys) → ⊥)
       → source_new ≡ source
 
 -- ---- the text
@@ -257,8 +257,8 @@ pub record MindsWords {D S : Type 0} (s : Source S) (asked : Option Subcommand) 
 -- none end with a line that is the same for each.
 abbrev pub command_told : Option Subcommand → Survey → Command
 command_told (Some subcommand.Init) counts = command.Init
-command_told (Some (subcommand.Run frames threads)) counts = command.Run
-command_told (Some (subcommand.Load frames threads sessions count seed)) counts =
+command_told (Some (subcommand.Run frames threads keys)) counts = command.Run
+command_told (Some (subcommand.Load frames threads keys sessions count seed)) counts =
     command.Load sessions (length (generated sessions count seed))
 command_told (Some subcommand.Report) counts = command.Survey counts
 command_told None counts = command.Run

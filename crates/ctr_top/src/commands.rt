@@ -126,8 +126,8 @@ fn ending<D, K: Sink>(sink: &mut K, command: &Command, outcome: Outcome<D>) -> E
 
 /// Runs a command: the words behind the program's name, over a disk, from a source to a sink.
 ///
-/// `init DIR` makes the empty database; `run DIR [--threads] [--frames N]` runs the script of the source, with so many frames for the database's pages;
-/// `load DIR --sessions S --count C --seed X [--threads] [--frames N]` runs the generated script of S sessions and C rounds, drawn from the seed X; `report DIR`
+/// `init DIR` makes the empty database; `run DIR [--threads] [--frames N] [--keys N]` runs the script of the source, with so many frames for the database's
+/// pages, and so many keys of rows remembered at most; `load DIR --sessions S --count C --seed X [--threads] [--frames N] [--keys N]` runs the generated script of S sessions and C rounds, drawn from the seed X; `report DIR`
 /// counts what the database holds. DIR doesn't begin with `-`, and the disk is that of the folder. How it ends, and by which status, is an `Ending`. Scripts are
 /// run in serial order, also where threads are asked for: those are for `run`.
 pub fn run_serial<D: Disk, S: Source, K: Sink>(
@@ -144,13 +144,13 @@ pub fn run_serial<D: Disk, S: Source, K: Sink>(
     ensures usage { MindsWords S.Source (command_asked (map string_bytes words.now)) disk result source.old source.new }
     // A run's tape stands in the order of its script, whatever the disk tells; over the database that the disk holds it is legal, and a crash at any
     // moment from the call's start to its end leaves a prefix of the commit order with every commit answered by then.
-    ensures ran { (frames : ℕ) (threads : Bool) → command_asked (map string_bytes words.now) ≡ Some (Subcommand.Run frames threads) → RanScript D.Disk disk S.Source source.old (work_of result) }
-    ensures run_causes { (frames : ℕ) (threads : Bool) → command_asked (map string_bytes words.now) ≡ Some (Subcommand.Run frames threads) → RunCauses D.Disk disk S.Source source.old source.new (work_of result) }
+    ensures ran { (frames : ℕ) (threads : Bool) (keys : ℕ) → command_asked (map string_bytes words.now) ≡ Some (Subcommand.Run frames threads keys) → RanScript D.Disk disk S.Source source.old (work_of result) }
+    ensures run_causes { (frames : ℕ) (threads : Bool) (keys : ℕ) → command_asked (map string_bytes words.now) ≡ Some (Subcommand.Run frames threads keys) → RunCauses D.Disk disk S.Source source.old source.new (work_of result) }
     // The statements stand on the tape in the order of the script's lines, each one's entries together.
-    ensures serial { (frames : ℕ) (threads : Bool) → command_asked (map string_bytes words.now) ≡ Some (Subcommand.Run frames threads) → IsTrue S.tells → (lines : List Line)
+    ensures serial { (frames : ℕ) (threads : Bool) (keys : ℕ) → command_asked (map string_bytes words.now) ≡ Some (Subcommand.Run frames threads keys) → IsTrue S.tells → (lines : List Line)
         → IsWritten SpellsLine (S.left source.old) lines → IsSerial lines result.left.tape.entries }
     // Where nothing fails a script runs to its end, or memory was refused before its first entry, or the last number of a record is told.
-    ensures complete { (frames : ℕ) (threads : Bool) → command_asked (map string_bytes words.now) ≡ Some (Subcommand.Run frames threads) → IsTrue D.tells → IsTrue S.tells
+    ensures complete { (frames : ℕ) (threads : Bool) (keys : ℕ) → command_asked (map string_bytes words.now) ≡ Some (Subcommand.Run frames threads keys) → IsTrue D.tells → IsTrue S.tells
         → (lines : List Line) → IsShortText (S.left source.old) lines → (s : State) → StandsForDatabase (D.reads disk) s → PassesOpening (D.reads disk)
         → NoneFailed (faults_of D.Disk S.Source K.Sink disk source.old sink.old) (faults_of D.Disk S.Source K.Sink result.left.disk source.new sink.new)
         → EndsUnfailed result.ending result.left }
@@ -158,7 +158,7 @@ pub fn run_serial<D: Disk, S: Source, K: Sink>(
     // A report logs nothing, and tells what the disk held at the start.
     ensures report { command_asked (map string_bytes words.now) ≡ Some Subcommand.Report → Reports D.Disk disk result }
     // A load runs its generated script as a run does the source's, and tells the totals of the table `load`.
-    ensures loaded { (frames : ℕ) (threads : Bool) (sessions count seed : ℕ) → command_asked (map string_bytes words.now) ≡ Some (Subcommand.Load frames threads sessions count seed)
+    ensures loaded { (frames : ℕ) (threads : Bool) (keys sessions count seed : ℕ) → command_asked (map string_bytes words.now) ≡ Some (Subcommand.Load frames threads keys sessions count seed)
         → Loads D.Disk disk (generated sessions count seed) false (work_of result) }
     // A command that is finished has met no fault.
     ensures calm { result.ending ≡ Finished
@@ -179,25 +179,23 @@ pub fn run_serial<D: Disk, S: Source, K: Sink>(
             let (start, outcome) = report(alloc, disk, usize::from(FRAMES));
             ending(sink, &Command::Survey { start }, outcome)
         }
-        Subcommand::Run { frames, threads: _ } => {
-            let outcome = run_script(alloc, disk, usize::from(frames), source, Schedule::Serial);
+        Subcommand::Run { frames, keys, .. } => {
+            let frames = usize::from(frames);
+            let keys = keys as usize;
+            let outcome = run_script(alloc, disk, frames, keys, source, Schedule::Serial);
             ending(sink, &Command::Run, outcome)
         }
         Subcommand::Load {
             frames,
-            threads: _,
+            keys,
             sessions,
             count,
             seed,
+            ..
         } => {
-            let (statements, outcome) = load(
-                alloc,
-                disk,
-                usize::from(frames),
-                sessions,
-                count,
-                seed,
-            );
+            let frames = usize::from(frames);
+            let keys = keys as usize;
+            let (statements, outcome) = load(alloc, disk, frames, keys, sessions, count, seed);
             let command = Command::Load {
                 sessions: sessions as u64,
                 statements,
@@ -225,13 +223,13 @@ pub fn run<R: Threads + Wait + Sync, D: Disk + Send, S: Source, K: Sink, G: Gate
     ensures usage { MindsWords S.Source (command_asked (map string_bytes words.now)) disk result source.old source.new }
     // A run's tape stands in the order of its script, whatever the disk tells; over the database that the disk holds it is legal, and a crash at any
     // moment from the call's start to its end leaves a prefix of the commit order with every commit answered by then.
-    ensures ran { (frames : ℕ) (threads : Bool) → command_asked (map string_bytes words.now) ≡ Some (Subcommand.Run frames threads) → RanScript D.Disk disk S.Source source.old (work_of result) }
-    ensures run_causes { (frames : ℕ) (threads : Bool) → command_asked (map string_bytes words.now) ≡ Some (Subcommand.Run frames threads) → RunCauses D.Disk disk S.Source source.old source.new (work_of result) }
+    ensures ran { (frames : ℕ) (threads : Bool) (keys : ℕ) → command_asked (map string_bytes words.now) ≡ Some (Subcommand.Run frames threads keys) → RanScript D.Disk disk S.Source source.old (work_of result) }
+    ensures run_causes { (frames : ℕ) (threads : Bool) (keys : ℕ) → command_asked (map string_bytes words.now) ≡ Some (Subcommand.Run frames threads keys) → RunCauses D.Disk disk S.Source source.old source.new (work_of result) }
     // Without threads the statements stand on the tape in the order of the script's lines, each one's entries together.
-    ensures serial { (frames : ℕ) → command_asked (map string_bytes words.now) ≡ Some (Subcommand.Run frames false) → IsTrue S.tells → (lines : List Line)
+    ensures serial { (frames keys : ℕ) → command_asked (map string_bytes words.now) ≡ Some (Subcommand.Run frames false keys) → IsTrue S.tells → (lines : List Line)
         → IsWritten SpellsLine (S.left source.old) lines → IsSerial lines result.left.tape.entries }
     // Where nothing fails a script runs to its end, or memory was refused before its first entry, or the last number of a record is told.
-    ensures complete { (frames : ℕ) (threads : Bool) → command_asked (map string_bytes words.now) ≡ Some (Subcommand.Run frames threads) → IsTrue D.tells → IsTrue S.tells
+    ensures complete { (frames : ℕ) (threads : Bool) (keys : ℕ) → command_asked (map string_bytes words.now) ≡ Some (Subcommand.Run frames threads keys) → IsTrue D.tells → IsTrue S.tells
         → (lines : List Line) → IsShortText (S.left source.old) lines → (s : State) → StandsForDatabase (D.reads disk) s → PassesOpening (D.reads disk)
         → NoneFailed (faults_of D.Disk S.Source K.Sink disk source.old sink.old) (faults_of D.Disk S.Source K.Sink result.left.disk source.new sink.new)
         → EndsUnfailed result.ending result.left }
@@ -239,7 +237,7 @@ pub fn run<R: Threads + Wait + Sync, D: Disk + Send, S: Source, K: Sink, G: Gate
     // A report logs nothing, and tells what the disk held at the start.
     ensures report { command_asked (map string_bytes words.now) ≡ Some Subcommand.Report → Reports D.Disk disk result }
     // A load runs its generated script as a run does the source's, and tells the totals of the table `load`.
-    ensures loaded { (frames : ℕ) (threads : Bool) (sessions count seed : ℕ) → command_asked (map string_bytes words.now) ≡ Some (Subcommand.Load frames threads sessions count seed)
+    ensures loaded { (frames : ℕ) (threads : Bool) (keys sessions count seed : ℕ) → command_asked (map string_bytes words.now) ≡ Some (Subcommand.Load frames threads keys sessions count seed)
         → Loads D.Disk disk (generated sessions count seed) threads (work_of result) }
     // A command that is finished has met no fault.
     ensures calm { result.ending ≡ Finished
@@ -252,30 +250,30 @@ pub fn run<R: Threads + Wait + Sync, D: Disk + Send, S: Source, K: Sink, G: Gate
             Subcommand::Run {
                 frames,
                 threads: true,
+                keys,
             },
         ) => {
             let workers = Workers { rt, gate, first: 0 };
-            let outcome = run_script_on_threads(workers, alloc, disk, usize::from(frames), source);
+            let frames = usize::from(frames);
+            let keys = keys as usize;
+            let outcome = run_script_on_threads(workers, alloc, disk, frames, keys, source);
             ending(sink, &Command::Run, outcome)
         }
         Ok(
             Subcommand::Load {
                 frames,
                 threads: true,
+                keys,
                 sessions,
                 count,
                 seed,
             },
         ) => {
             let workers = Workers { rt, gate, first: 3 };
+            let frames = usize::from(frames);
+            let keys = keys as usize;
             let (statements, outcome) = load_on_threads(
-                workers,
-                alloc,
-                disk,
-                usize::from(frames),
-                sessions,
-                count,
-                seed,
+                workers, alloc, disk, frames, keys, sessions, count, seed,
             );
             let command = Command::Load {
                 sessions: sessions as u64,

@@ -14,11 +14,12 @@ use std::sync::Wait;
 use std::thread::Threads;
 
 /// Runs the generated script of so many sessions and rounds, drawn from a seed, over the database of a disk, in serial order, with so many
-/// frames for its pages, 8 to 4,096; and tells how many statements the script has. It is made before the disk is touched.
+/// frames for its pages, 8 to 4,096, and so many keys of rows remembered at most; and tells how many statements the script has. It is made before the disk is touched.
 pub fn load<D: Disk>(
     alloc: Global,
     disk: D,
     frames: usize,
+    keys: usize,
     sessions: u8,
     count: u64,
     seed: u64,
@@ -36,7 +37,7 @@ pub fn load<D: Disk>(
     match make(alloc, sessions, count, seed) {
         Ok(script) => {
             let statements = script.lines.len() as u64;
-            let ran = run(alloc, disk, frames, script, Schedule::Serial, true);
+            let ran = run(alloc, disk, frames, keys, script, Schedule::Serial, true);
             let outcome = Outcome {
                 ending: ended(ran.end),
                 left: ran.left,
@@ -53,6 +54,7 @@ pub fn load_on_threads<R: Threads + Wait + Sync, D: Disk + Send, G: Gate + Sync>
     alloc: Global,
     disk: D,
     frames: usize,
+    keys: usize,
     sessions: u8,
     count: u64,
     seed: u64,
@@ -69,7 +71,7 @@ pub fn load_on_threads<R: Threads + Wait + Sync, D: Disk + Send, G: Gate + Sync>
     match make(alloc, sessions, count, seed) {
         Ok(script) => {
             let statements = script.lines.len() as u64;
-            let ran = run_on_threads(workers, alloc, disk, frames, script, true);
+            let ran = run_on_threads(workers, alloc, disk, frames, keys, script, true);
             let outcome = Outcome {
                 ending: ended(ran.end),
                 left: ran.left,

@@ -17,12 +17,13 @@ use std::alloc::Global;
 use std::sync::Wait;
 use std::thread::Threads;
 
-/// Reads a script and runs it over the database of a disk, in whichever order, with so many frames for its pages, 8 to 4,096. The script is read before
-/// the disk is touched.
+/// Reads a script and runs it over the database of a disk, in whichever order, with so many frames for its pages, 8 to 4,096, and so many keys
+/// of rows remembered at most. The script is read before the disk is touched.
 pub fn run_script<D: Disk, S: Source>(
     alloc: Global,
     disk: D,
     frames: usize,
+    keys: usize,
     source: &mut S,
     schedule: Schedule<'_>,
 ) -> Outcome<D>
@@ -36,7 +37,7 @@ pub fn run_script<D: Disk, S: Source>(
 {
     match read_script(alloc, source) {
         Ok(script) => {
-            let ran = run(alloc, disk, frames, script, schedule, false);
+            let ran = run(alloc, disk, frames, keys, script, schedule, false);
             Outcome {
                 ending: ended(ran.end),
                 left: ran.left,
@@ -52,6 +53,7 @@ pub fn run_script_on_threads<R: Threads + Wait + Sync, D: Disk + Send, S: Source
     alloc: Global,
     disk: D,
     frames: usize,
+    keys: usize,
     source: &mut S,
 ) -> Outcome<D>
     requires frames { (8 ≤ frames) × (frames ≤ 4096) }
@@ -61,7 +63,7 @@ pub fn run_script_on_threads<R: Threads + Wait + Sync, D: Disk + Send, S: Source
 {
     match read_script(alloc, source) {
         Ok(script) => {
-            let ran = run_on_threads(workers, alloc, disk, frames, script, false);
+            let ran = run_on_threads(workers, alloc, disk, frames, keys, script, false);
             Outcome {
                 ending: ended(ran.end),
                 left: ran.left,

@@ -28,28 +28,28 @@ returns-in-Err-clause-usage g c =
     minds_none g.S.Source _ c.args.disk c.ending.result c.args.source.now c.in-Err.why c.in-Err.ensures.unasked (ap (λ o. o.ending) is ∙ t.ending ∙ c.not_asked.ensures) (ap (λ o. o.left.disk) is ∙ t.disk) (ap (λ o. o.left.tape.entries) is ∙ t.tape, ap (λ o. o.left.undone) is ∙ t.undone)
 
 pub returns-in-Err-clause-ran : goal.returns-in-Err-clause-ran
-returns-in-Err-clause-ran g c = λ frames threads is.
+returns-in-Err-clause-ran g c = λ frames threads keys is.
     let d = g.D.Disk in
     let t = c.without_tape-outcome.ensures in
     subst (RanScript d c.args.disk g.S.Source c.args.source.now) (sym c.ending.ensures.outcome)
-    (ran_refused d g.met.D.Disk.earlier g.met.D.Disk.only_now c.args.disk c.without_tape-outcome.result t.disk t.tape t.undone (t.ending ∙ c.not_asked.ensures ∙ memory_only _ c.in-Err.why c.in-Err.ensures.unasked (Run frames threads) is) g.S.Source c.args.source.now)
+    (ran_refused d g.met.D.Disk.earlier g.met.D.Disk.only_now c.args.disk c.without_tape-outcome.result t.disk t.tape t.undone (t.ending ∙ c.not_asked.ensures ∙ memory_only _ c.in-Err.why c.in-Err.ensures.unasked (Run frames threads keys) is) g.S.Source c.args.source.now)
 
 pub returns-in-Err-clause-run_causes : goal.returns-in-Err-clause-run_causes
-returns-in-Err-clause-run_causes g c = λ frames threads is.
+returns-in-Err-clause-run_causes g c = λ frames threads keys is.
     let d = g.D.Disk in
     let t = c.without_tape-outcome.ensures in
     subst (RunCauses d c.args.disk g.S.Source c.args.source.now c.args.source.now) (sym c.ending.ensures.outcome)
-    (causes_refused d g.met.D.Disk.earlier g.met.D.Disk.only_now c.args.disk c.without_tape-outcome.result t.disk t.tape t.undone (t.ending ∙ c.not_asked.ensures ∙ memory_only _ c.in-Err.why c.in-Err.ensures.unasked (Run frames threads) is) g.S.Source c.args.source.now)
+    (causes_refused d g.met.D.Disk.earlier g.met.D.Disk.only_now c.args.disk c.without_tape-outcome.result t.disk t.tape t.undone (t.ending ∙ c.not_asked.ensures ∙ memory_only _ c.in-Err.why c.in-Err.ensures.unasked (Run frames threads keys) is) g.S.Source c.args.source.now)
 
 pub returns-in-Err-clause-serial : goal.returns-in-Err-clause-serial
-returns-in-Err-clause-serial g c = λ frames threads is told lines written.
+returns-in-Err-clause-serial g c = λ frames threads keys is told lines written.
     serial_front lines 0 c.ending.result.left.tape.entries (ap (λ o. statements_on o.left.tape.entries) c.ending.ensures.outcome ∙ ap statements_on c.without_tape-outcome.ensures.tape)
 
 pub returns-in-Err-clause-complete : goal.returns-in-Err-clause-complete
-returns-in-Err-clause-complete g c = λ frames threads is told source_told ls script base stands passes none.
+returns-in-Err-clause-complete g c = λ frames threads keys is told source_told ls script base stands passes none.
     let t = c.without_tape-outcome.ensures in
     let outcome = c.ending.ensures.outcome in
-    let memory = ap (λ o. o.ending) outcome ∙ t.ending ∙ c.not_asked.ensures ∙ memory_only _ c.in-Err.why c.in-Err.ensures.unasked (Run frames threads) is in
+    let memory = ap (λ o. o.ending) outcome ∙ t.ending ∙ c.not_asked.ensures ∙ memory_only _ c.in-Err.why c.in-Err.ensures.unasked (Run frames threads keys) is in
     inr (inl (work_back c.ending.result.ending ending.OutOfMemory memory (λ fine. absurd (cc fine)), ap (λ o. o.left.tape.entries) outcome ∙ t.tape))
 
 pub returns-in-Err-clause-init : goal.returns-in-Err-clause-init
@@ -71,11 +71,11 @@ returns-in-Err-clause-report g c = λ is.
     }
 
 pub returns-in-Err-clause-loaded : goal.returns-in-Err-clause-loaded
-returns-in-Err-clause-loaded g c = λ frames threads sessions count seed is.
+returns-in-Err-clause-loaded g c = λ frames threads keys sessions count seed is.
     let d = g.D.Disk in
     let t = c.without_tape-outcome.ensures in
     subst (Loads d c.args.disk (generated sessions count seed) false) (sym c.ending.ensures.outcome)
-    (loads_refused d g.met.D.Disk.earlier g.met.D.Disk.only_now c.args.disk (generated sessions count seed) false c.without_tape-outcome.result t.disk t.tape t.undone t.totals (t.ending ∙ c.not_asked.ensures ∙ memory_only _ c.in-Err.why c.in-Err.ensures.unasked (Load frames threads sessions count seed) is))
+    (loads_refused d g.met.D.Disk.earlier g.met.D.Disk.only_now c.args.disk (generated sessions count seed) false c.without_tape-outcome.result t.disk t.tape t.undone t.totals (t.ending ∙ c.not_asked.ensures ∙ memory_only _ c.in-Err.why c.in-Err.ensures.unasked (Load frames threads keys sessions count seed) is))
 
 -- ---- a load
 
@@ -86,7 +86,7 @@ returns-in-Load-clause-printed g c =
     (sym (ap (λ a. command_told a c.ending-in-Load.result.survey) (c.in-Ok.ensures.asked ∙ ap Some c.in-Load.is))) e.printed
 
 pub returns-in-Load-clause-loaded : goal.returns-in-Load-clause-loaded
-returns-in-Load-clause-loaded g c = λ frames threads sessions count seed is.
+returns-in-Load-clause-loaded g c = λ frames threads keys sessions count seed is.
     let d = g.D.Disk in
     let o = work_of c.ending-in-Load.result in
     subst (λ ls. Loads d c.args.disk ls false o) (ap lines_asked (sym (c.in-Ok.ensures.asked ∙ ap Some c.in-Load.is) ∙ is))
@@ -120,7 +120,7 @@ returns-in-Run-clause-printed g c =
     (sym (ap (λ a. command_told a c.ending-in-Run.result.survey) (c.in-Ok.ensures.asked ∙ ap Some c.in-Run.is))) e.printed
 
 pub returns-in-Run-clause-complete : goal.returns-in-Run-clause-complete
-returns-in-Run-clause-complete g c = λ frames threads is told source_told ls script base stands passes none.
+returns-in-Run-clause-complete g c = λ frames threads keys is told source_told ls script base stands passes none.
     let d = g.D.Disk in
     let r = c.run_script-outcome in
     let e = c.ending-in-Run in
