@@ -25,7 +25,7 @@ use Rattle.ctr_redo.proofs.StateLaws.{state_more}
 use Rattle.ctr_redo.proofs.ImageLaws.{KeepsHomes, logs_apart, more_stored, sound_flushed, folds_flushed}
 use Rattle.ctr_base.specs.declared.base.Base.{Base}
 use Rattle.ctr_base.specs.Base.{stored_of, waiting_of, now_of, home_of, MaySave, IsQuiet, MovesBase, KeepsBase}
-use Rattle.ctr_base.specs.BaseLaws.{writes_holds, by_is_log}
+use Rattle.ctr_base.specs.LogLaws.{writes_holds, by_is_log}
 
 -- the log ends no earlier than its gate stands
 gate_low : (place : ℕ) (rs : List (List ℕ)) → place ≤ end_behind place rs

@@ -28,7 +28,7 @@ use Rattle.ctr_base.specs.Base.{stored_of, waiting_of, now_of, home_of, MaySave,
 use Rattle.ctr_base.specs.Homes.{HomesSince}
 use Rattle.ctr_base.specs.Extent.{KeepsPageBytes}
 use Rattle.ctr_base.specs.Growth.{IsGrowing, HasGrown, grown_root, GrowsBase, GrowsOver, AreBlank}
-use Rattle.ctr_base.specs.BaseLaws.{goes_on_same, log_content, writes_same}
+use Rattle.ctr_base.specs.LogLaws.{goes_on_same, log_content, writes_same}
 use Rattle.ctr_base.proofs.ExtentLaws.{cleared_blank, cleared_long}
 use Rattle.ctr_base.proofs.HomeLaws.{since_grown}
 use Rattle.ctr_base.proofs.ClearLaws.{home_cleared, sound_cleared, state_cleared, cleared_keeps, can_count}

@@ -40,7 +40,8 @@ use Rattle.ctr_redo.proofs.BeginLaws.{folds_begun, sound_begun, state_begun}
 use Rattle.ctr_redo.proofs.DropLaws.{begun, log_dropped, next_dropped, sound_dropped, state_without, folds_dropped, newer_passes, fits_alone}
 use Rattle.ctr_base.specs.declared.base.Base.{Base}
 use Rattle.ctr_base.specs.Base.{stored_of, waiting_of, now_of, home_of, MaySave, IsQuiet, StandsWell, HasGate, LeavesBase}
-use Rattle.ctr_base.specs.BaseLaws.{gate_there, by_is_log, writes_holds, goes_on_same, writes_same, log_content}
+use Rattle.ctr_base.specs.BaseLaws.{gate_there}
+use Rattle.ctr_base.specs.LogLaws.{by_is_log, writes_holds, goes_on_same, writes_same, log_content}
 use Rattle.ctr_base.specs.Generations.{IsCheckpoint, KeepsFold, OlderIsHome}
 
 -- the file for a generation behind another is one of the log

@@ -1,5 +1,6 @@
 pub mod Homes
 pub mod Base
+pub mod LogLaws
 pub mod BaseLaws
 pub mod KeptLaws
 pub mod Opening
