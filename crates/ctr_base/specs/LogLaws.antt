@@ -21,7 +21,7 @@ use Rattle.ctr_redo.proofs.StateLaws.{steps-append}
 use Rattle.ctr_redo.proofs.ImageLaws.{KeepsLogs, named_same, other_same}
 use Rattle.ctr_base.specs.Base.{HasGate}
 
--- the first of a list, and the first of what is behind them
+-- The first of a list with the first of its rest are as many of the list as both take.
 pub take_split : {A : Type 0} (j k : ℕ) (l : List A)
     → take j l ++ take k (drop j l) ≡ take (j + k) l
 take_split zero k l = let n : k ≡ 0 + k = omega arith in ap (λ (m : ℕ). take m l) n
@@ -32,7 +32,7 @@ take_split {A} (suc j) k (x ∷ l) =
     let n : suc (j + k) ≡ suc j + k = omega arith in
     ap (λ (t : List A). x ∷ t) (take_split j k l) ∙ ap (λ (m : ℕ). take m (x ∷ l)) n
 
--- a function of three
+-- a function gives the same where its three values are the same
 pub three : {A B C E : Type 0} (f : A → B → C → E) {a a' : A} {b b' : B} {c c' : C} → a ≡ a'
     → b ≡ b' → c ≡ c' → f a b c ≡ f a' b' c'
 three f {a} {a'} {b} {b'} {c} {c'} one two thr =
