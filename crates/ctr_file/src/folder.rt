@@ -1,7 +1,9 @@
 //! Four files in a folder, opened as they are needed, and locked while they are.
 ghost use Rattle.std.specs.Prelude.{◌≡◌, true, false, IsSome, OnOk, OnErr};
+ghost use Rattle.ctr_file.specs.Ahead.{has_none};
 ghost use Rattle.ctr_file.specs.Folder.{is_unsynced, IsUnsynced, KeepsInMind, IsSynced, SyncsNames};
 
+use crate::ahead::{AHEAD, Ahead};
 use crate::marked::Marked;
 use ctr_disk::Failed;
 use ctr_types::File as Which;
@@ -29,6 +31,8 @@ pub struct Folder<R: Files<File = File>> {
     log_a: Slot,
     log_b: Slot,
     pages: Slot,
+    // of one of the logs
+    ahead: Ahead,
 }
 
 impl<R: Files<File = File> + Drop> Drop for Folder<R> {
@@ -43,6 +47,7 @@ impl<R: Files<File = File> + Drop> Drop for Folder<R> {
             log_a: _,
             log_b: _,
             pages: _,
+            ahead: _,
         } = self;
     }
 }
@@ -113,7 +118,7 @@ fn sync_names<R: Files<File = File>>(rt: &R, path: &str) -> Result<(), Failed> {
 }
 
 // Fills the buffer from a place of the file, with zeros past its end.
-fn read_or_zeros(file: &File, at: u64, into: &mut [u8]) -> Result<(), Failed> {
+pub(crate) fn read_or_zeros(file: &File, at: u64, into: &mut [u8]) -> Result<(), Failed> {
     for byte in into.iter_mut() {
         *byte = 0;
     }
@@ -123,6 +128,35 @@ fn read_or_zeros(file: &File, at: u64, into: &mut [u8]) -> Result<(), Failed> {
         Err(error) if error.kind() == ErrorKind::UnexpectedEof => Ok(()),
         Err(_) => Err(Failed),
     }
+}
+
+// Fills the buffer from a place of an open file.
+fn read_in(slot: &Slot, at: u64, into: &mut [u8]) -> Result<(), Failed> {
+    let Some(opened) = slot else {
+        return Err(Failed);
+    };
+    read_or_zeros(opened.file(), at, into)
+}
+
+// Fills the buffer from a place of an open log, which is read from front to back: from the bytes that were read ahead, or are now. Where
+// so many can't be read, the buffer's own are.
+fn read_log(
+    slot: &Slot,
+    ahead: &mut Ahead,
+    file: Which,
+    at: u64,
+    into: &mut [u8],
+) -> Result<(), Failed> {
+    if ahead.copy(file, at, into) {
+        return Ok(());
+    }
+    let Some(opened) = slot else {
+        return Err(Failed);
+    };
+    if into.len() <= AHEAD && ahead.fill(opened.file(), file, at) && ahead.copy(file, at, into) {
+        return Ok(());
+    }
+    read_or_zeros(opened.file(), at, into)
 }
 
 // Writes the bytes at a place of an open file, which is marked first.
@@ -159,6 +193,7 @@ impl<R: Files<File = File> + Drop> Folder<R> {
             log_a: None,
             log_b: None,
             pages: None,
+            ahead: Ahead::new(alloc),
         }
     }
 
@@ -174,6 +209,7 @@ impl<R: Files<File = File> + Drop> Folder<R> {
     fn set_file(&mut self, file: Which, opened: File)
         ensures kept { KeepsInMind self.old self.new }
         ensures locked { IsSome self.old.root → IsSome self.new.root }
+        ensures ahead { self.new.ahead ≡ self.old.ahead }
     {
         let slot = Some(Marked::new(opened));
         match file {
@@ -189,6 +225,7 @@ impl<R: Files<File = File> + Drop> Folder<R> {
     fn open_root(&mut self) -> Result<(), Failed>
         ensures kept { KeepsInMind self.old self.new }
         ensures open { OnOk result (IsSome self.new.root) }
+        ensures ahead { self.new.ahead ≡ self.old.ahead }
     {
         if self.root.is_some() {
             return Ok(());
@@ -210,6 +247,7 @@ impl<R: Files<File = File> + Drop> Folder<R> {
     fn open(&mut self, file: Which) -> Result<(), Failed>
         ensures kept { KeepsInMind self.old self.new }
         ensures locked { OnOk result (IsSome self.new.root) }
+        ensures ahead { self.new.ahead ≡ self.old.ahead }
     {
         self.open_root()?;
         if self.slot(file).is_some() {
@@ -240,10 +278,12 @@ impl<R: Files<File = File> + Drop> Folder<R> {
         ensures { KeepsInMind self.old self.new }
     {
         self.open(file)?;
-        let Some(opened) = self.slot(file) else {
-            return Err(Failed);
-        };
-        read_or_zeros(opened.file(), at, into)
+        match file {
+            Which::Root => read_in(&self.root, at, into),
+            Which::LogA => read_log(&self.log_a, &mut self.ahead, file, at, into),
+            Which::LogB => read_log(&self.log_b, &mut self.ahead, file, at, into),
+            Which::Pages => read_in(&self.pages, at, into),
+        }
     }
 
     /// Writes the bytes at a place of a file.
@@ -251,7 +291,10 @@ impl<R: Files<File = File> + Drop> Folder<R> {
         // The file is marked for the next sync.
         ensures marked { OnOk result (IsUnsynced file self.new) }
         ensures kept { KeepsInMind self.old self.new }
+        // What was read ahead isn't what the file has from here on.
+        ensures forgotten { has_none self.new.ahead ≡ true }
     {
+        self.ahead.forget();
         self.open(file)?;
         match file {
             Which::Root => write_in(&mut self.root, at, bytes),

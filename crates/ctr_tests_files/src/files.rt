@@ -60,6 +60,69 @@ fn files_keep_what_is_written(rt: HostRuntime) -> Result<(), Fail> {
     Ok(())
 }
 
+const LONG_LOG: &str = "a_long_log";
+
+// How long a log is that is read in parts: more than twice as long as what is read ahead of it.
+const LONG: usize = 40_000;
+
+// Reads so many bytes of a log in parts of 7, from front to back: the first place at which it isn't the place's last digits.
+fn first_other<D: Disk>(disk: &mut D, len: usize) -> Result<Option<usize>, Failed> {
+    for part in 0..len / 7 {
+        let mut got = [9; 7];
+        disk.read(File::LogA, part as u64 * 7, &mut got)?;
+        for (i, byte) in got.iter().enumerate() {
+            if *byte as usize != (part * 7 + i) % 251 {
+                return Ok(Some(part * 7 + i));
+            }
+        }
+    }
+    Ok(None)
+}
+
+// Five bytes of a file.
+fn read_five<D: Disk>(disk: &mut D, file: File, at: u64) -> Result<[u8; 5], Failed> {
+    let mut got = [9; 5];
+    disk.read(file, at, &mut got)?;
+    Ok(got)
+}
+
+// Where a long log that is read in parts has another byte; what is read of it near its end, over which is written then, and past it; and
+// what is read of the other log where the first was read last.
+type Parts = (Option<usize>, [[u8; 5]; 4]);
+
+fn read_parts<D: Disk>(disk: &mut D, bytes: &[u8]) -> Result<Parts, Failed> {
+    disk.write(File::LogA, 0, bytes)?;
+    disk.write(File::LogB, 0, b"other")?;
+    let wrong = first_other(disk, bytes.len())?;
+    let before = read_five(disk, File::LogA, 39_900)?;
+    disk.write(File::LogA, 39_900, b"again")?;
+    let behind = read_five(disk, File::LogA, 39_900)?;
+    let past = read_five(disk, File::LogA, 39_998)?;
+    let _ = read_five(disk, File::LogA, 0)?;
+    let other = read_five(disk, File::LogB, 0)?;
+    Ok((wrong, [before, behind, past, other]))
+}
+
+fn in_parts(rt: HostRuntime) -> Result<Result<Parts, Failed>, AllocError> {
+    let mut bytes = [0; LONG];
+    for (i, byte) in bytes.iter_mut().enumerate() {
+        *byte = (i % 251) as u8;
+    }
+    let path = String::from_str(rt.alloc(), LONG_LOG)?;
+    let mut disk = FileDisk::new(rt, rt.alloc(), path);
+    Ok(read_parts(&mut disk, &bytes))
+}
+
+// A log that is read in parts has in each what was written there last, by whichever call; and so has the other log.
+#[test]
+fn parts_of_a_log_are_what_was_written(rt: HostRuntime) -> Result<(), Fail> {
+    let before = [242, 243, 244, 245, 246];
+    let past = [89, 90, 0, 0, 0];
+    assert!(rt; in_parts(rt)? == Ok((None, [before, *b"again", past, *b"other"])));
+    fs::remove_dir_all(&rt, LONG_LOG)?;
+    Ok(())
+}
+
 const LOCKED: &str = "a_locked_folder";
 
 // What a disk answers that is in use; what another one does, and whether it made a file; and what a third one
