@@ -1,10 +1,10 @@
 // The places of keys, kept exact as the slots of a page change.
-ghost use Rattle.std.specs.Prelude.{true, ◌≡◌, ◌≢◌, ◌≤◌, ◌<◌, ◌+◌, ℕ, ℤ, Ok, Option, None, Some, length, List, OnOk, IfOk};
+ghost use Rattle.std.specs.Prelude.{true, ◌≡◌, ◌≢◌, ◌≤◌, ◌<◌, ◌+◌, ◌*◌, ℕ, ℤ, Ok, Option, None, Some, length, List, OnOk, IfOk};
 ghost use Rattle.ctr_rec.specs.types_Kind.{Kind};
 ghost use Rattle.ctr_page.specs.declared.table.TheConstants.{PAGE_SIZE};
 ghost use Rattle.ctr_page.specs.Places.{slot_size as size_of_slot, start_of as start_place};
 ghost use Rattle.ctr_page.specs.Columns.{kinds_width as width_of_kinds};
-ghost use Rattle.ctr_directory.specs.Keys.{key_on as key_there, key_before as key_there_before, slots_of_kinds, KeysLead, with_key, over_slots, SlotsPass, LiesOutside, SlotStays, SlotsStay};
+ghost use Rattle.ctr_directory.specs.Keys.{key_on as key_there, key_before as key_there_before, slots_of_kinds, KeysLead, with_key, over_slots, SlotsPass, LiesOutside, SlotsStay};
 ghost use Rattle.ctr_page.specs.Columns.{slot_start};
 ghost use Rattle.ctr_page.specs.Damage.{slot_check};
 
@@ -23,13 +23,11 @@ pub struct Span {
     pub to: usize,
 }
 
-/// Whether a slot of a page lies outside of the bytes that changed.
-fn lies_outside(kinds: &[Kind], span: Span, slot: u16) -> bool
-    requires few { length kinds.now ≤ 7 }
-    requires there { slot < slots_of_kinds kinds.now }
-    ensures { result ≡ true → LiesOutside kinds.now span slot }
+/// Whether a slot of so many bytes lies outside of the bytes that changed.
+fn lies_outside(size: usize, span: Span, slot: u16) -> bool
+    requires inside { 16 + slot * size + size ≤ PAGE_SIZE }
+    ensures { (kinds : List Kind) → size ≡ size_of_slot (width_of_kinds kinds) → result ≡ true → LiesOutside kinds span slot }
 {
-    let size = slot_size(kinds_width(kinds));
     let start = 16 + slot as usize * size;
     start + size <= span.from || span.to <= start
 }
@@ -133,13 +131,12 @@ fn set_key(
     fill_key(places, at, after)
 }
 
-/// A slot of a page changed, which is checked; or it lies outside of the bytes that changed.
+/// A slot of a page changed, which is checked.
 fn renew_slot(
     places: &mut IndexMap<i64, Place>,
     at: Place,
     kinds: &[Kind],
     counted: u32,
-    span: Span,
     before: &[u8],
     page: &[u8],
 ) -> Result<(), Unkept>
@@ -148,13 +145,10 @@ fn renew_slot(
     requires whole { length page.now ≡ PAGE_SIZE }
     requires was { length before.now ≢ 0 → length before.now ≡ PAGE_SIZE }
     requires there { at.slot < slots_of_kinds kinds.now }
-    ensures checked { SlotStays kinds.now counted span at.slot before.now page.now → OnOk result (slot_check kinds.now counted (slot_start kinds.now at.slot) page.now ≡ Ok tt) }
-    ensures leads { SlotStays kinds.now counted span at.slot before.now page.now → (keys : ℕ → ℕ → Option ℤ) → KeysLead keys places.old
+    ensures checked { OnOk result (slot_check kinds.now counted (slot_start kinds.now at.slot) page.now ≡ Ok tt) }
+    ensures leads { (keys : ℕ → ℕ → Option ℤ) → KeysLead keys places.old
         → keys at.page at.slot ≡ key_there_before kinds.now at.slot before.now → OnOk result (KeysLead (with_key at (key_there kinds.now at.slot page.now) keys) places.new) }
 {
-    if lies_outside(kinds, span, at.slot) {
-        return Ok(());
-    }
     if check_slot(kinds, counted, at.slot, page).is_err() {
         return Err(Unkept);
     }
@@ -183,10 +177,14 @@ pub fn renew(
         → ((n : ℕ) → n < slots_of_kinds kinds.now → keys number n ≡ key_there_before kinds.now n before.now)
         → OnOk result (KeysLead (over_slots number (slots_of_kinds kinds.now) (λ n. key_there kinds.now n page.now) keys) places.new) }
 {
+    let size = slot_size(kinds_width(kinds));
     let count = slots_on(kinds);
     for slot in 0..count {
+        if lies_outside(size, span, slot) {
+            continue;
+        }
         let at = Place { page: number, slot };
-        renew_slot(places, at, kinds, counted, span, before, page)?;
+        renew_slot(places, at, kinds, counted, before, page)?;
     }
     Ok(())
 }
