@@ -11,7 +11,7 @@ use Rattle.ctr_bytes.specs.Fields.{field}
 use Rattle.ctr_bytes.proofs.FieldLaws.{got_byte}
 use Rattle.ctr_rec.specs.Damage.{at_most}
 use Rattle.ctr_page.specs.declared.rows.RowSlot.{RowSlot}
-use Rattle.ctr_page.specs.Places.{slot_size, room_for}
+use Rattle.ctr_page.specs.Places.{slot_size, room_for, start_of}
 use Rattle.ctr_page.specs.Reading.{piece, slot_at}
 use Rattle.ctr_page.specs.Columns.{kinds_of, kinds_width, slot_start}
 use Rattle.ctr_page.specs.Damage.{slot_check, used_slot_check}
@@ -50,6 +50,12 @@ said_same cs sought s fits = known (s.used == 1) (used sought) (unused sought)
     unused (Key key) isnt = ap (λ b. is_sought (Key key) (cond b there free_slot)) isnt ∙ sym (ap (λ b. b && int_eq s.key key) isnt)
     unused Free isnt = ap (λ b. is_sought Free (cond b there free_slot)) isnt ∙ sym (ap (λ n. n == 0) (fits (eqb-false s.used 1 isnt)))
 
+-- the first byte of a slot says whether it is used
+pub used_is : (w m : ℕ) (page : List ℕ) → (slot_at w m page).used ≡ field 1 (start_of (slot_size w) m) page
+used_is w m page =
+    let start = start_of (slot_size w) m in
+    sym (got_byte 0 (piece start (slot_size w) page)) ∙ byte_in_piece start (slot_size w) page (omega arith) ∙ got_byte start page
+
 module _ (pages : ℕ → List ℕ) (p counted : ℕ) (sought : SlotSought) (rows : (header_on pages p).kind ≡ 1) where
   abbrev kinds : List Kind
   kinds = kinds_of (columns_on pages p)
@@ -60,16 +66,12 @@ module _ (pages : ℕ → List ℕ) (p counted : ℕ) (sought : SlotSought) (row
   wide : w ≡ width_on pages p
   wide = kinds_wide (drop 1 (columns_on pages p))
 
-  used_is : (m : ℕ) → (slot_at w m (pages p)).used ≡ field 1 (slot_start kinds m) (pages p)
-  used_is m =
-      sym (got_byte 0 (piece (slot_start kinds m) (slot_size w) (pages p))) ∙ byte_in_piece (slot_start kinds m) (slot_size w) (pages p) (omega arith) ∙ got_byte (slot_start kinds m) (pages p)
-
   same_sought : (m : ℕ) → checks_slot kinds counted (pages p) m ≡ Ok tt → seeks_in (area_of pages) p sought m ≡ seeks_slot w sought (pages p) m
   same_sought m passes =
       ap (λ b. is_sought sought (cond b (slot_said (columns_on pages p) (slot_at (width_on pages p) m (pages p))) free_slot)) (eq-eqb (header_on pages p).kind 1 rows)
       ∙ ap (λ v. is_sought sought (slot_said (columns_on pages p) (slot_at v m (pages p)))) (sym wide)
       ∙ said_same (columns_on pages p) sought (slot_at w m (pages p))
-      (λ isnt. used_is m ∙ one_or_none kinds counted (slot_start kinds m) (pages p) passes (λ is. isnt (used_is m ∙ is)))
+      (λ isnt. used_is w m (pages p) ∙ one_or_none kinds counted (slot_start kinds m) (pages p) passes (λ is. isnt (used_is w m (pages p) ∙ is)))
 
   rooms : room_for (slot_size w) ≡ (area_of pages).room p
   rooms = ap (λ v. room_for (slot_size v)) wide ∙ sym (ap (λ b. room_for (size_of_kind b (width_on pages p))) (eq-eqb (header_on pages p).kind 1 rows))

@@ -7,11 +7,10 @@ ghost use Rattle.ctr_page.specs.Places.{slot_size as size_of_slot, start_of};
 ghost use Rattle.ctr_page.specs.Searching.{IsFirst};
 ghost use Rattle.ctr_passed.specs.area_Reading.{header_on, columns_on, area_of};
 ghost use Rattle.ctr_heap.specs.declared.slots.SlotSought.{SlotSought};
-ghost use Rattle.ctr_heap.specs.Slots.{slot_is, EndsSlots, seeks_in};
+ghost use Rattle.ctr_heap.specs.Slots.{seeks_slot, EndsSlots, seeks_in};
 
-use ctr_page::{
-    BadPage, Place, RowSlot, Use, check_slot, kinds_width, read_slot, room_for, slot_size,
-};
+use ctr_bytes::get_u8;
+use ctr_page::{BadPage, Place, Use, check_slot, kinds_width, read_slot, room_for, slot_size};
 use ctr_types::Kind;
 use ctr_walk::PageSought;
 
@@ -34,13 +33,18 @@ pub enum SlotSought {
 }
 
 impl SlotSought {
-    /// Whether it is this one.
-    fn is(self, slot: &RowSlot) -> bool
-        ensures { result ≡ slot_is self slot.now }
+    /// Whether it is the slot of this number, on a page of rows so wide. Of a free one no more than its first byte is looked at.
+    fn is(self, w: usize, slot: u16, page: &[u8]) -> bool
+        requires width { w ≤ 2048 }
+        requires inside { start_of (size_of_slot w) slot + size_of_slot w ≤ length page.now }
+        ensures { result ≡ seeks_slot w self page.now slot }
     {
         match self {
-            SlotSought::Key(key) => slot.used == Use::USED && slot.key == key,
-            SlotSought::Free => slot.used == Use::FREE,
+            SlotSought::Key(key) => {
+                let row = read_slot(page, w, slot);
+                row.used == Use::USED && row.key == key
+            }
+            SlotSought::Free => get_u8(page, HEADER + slot as usize * slot_size(w)) == 0,
         }
     }
 }
@@ -71,7 +75,7 @@ pub fn search_slots(
     let count = room_for(slot_size(w)) as u16;
     for slot in 0..count {
         check_slot(kinds, counted, slot, page)?;
-        if sought.is(&read_slot(page, w, slot)) {
+        if sought.is(w, slot, page) {
             return Ok(Some(slot));
         }
     }
